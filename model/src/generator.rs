@@ -1,0 +1,795 @@
+//! Random journals that mean something: the model runs along while a journal
+//! is made, so that calls name places that are live, portals that can be
+//! called and ranges that have ancestors; a share of them is then spoilt.
+
+use crate::boot::{ROOT_EC, ROOT_SELECTOR};
+use crate::calls::Hypercall;
+use crate::descriptor::{Descriptor, FULL_MASK};
+use crate::journal::{body_bytes, Machine, Record};
+use crate::layout::{
+    CPUS, DATA_WORDS, DEPTH_LIMIT, DOMAINS, DOMAIN_PLACES, HEADER_WORDS, OBJECTS, OBJECT_WIDTH,
+    PLACE_WIDTH, SPACE_START,
+};
+use crate::random::Random;
+use crate::tables::{ObjectKind, Space, BIND_PT, BIND_SC, CALL_PT};
+
+/// What a journal dwells on.
+#[derive(Clone, Copy, PartialEq, Eq, Debug)]
+pub enum Kind {
+    /// Every call, in several domains.
+    Mixed,
+    /// Delegations down to the depth limit, with translations and revocations of them.
+    Deep,
+    /// All domains and all object records in use.
+    Full,
+    /// Words without regard to the tables.
+    Junk,
+}
+
+impl Kind {
+    pub const ALL: [Kind; 4] = [Kind::Mixed, Kind::Deep, Kind::Full, Kind::Junk];
+
+    pub const fn name(self) -> &'static str {
+        match self {
+            Kind::Mixed => "mixed",
+            Kind::Deep => "deep",
+            Kind::Full => "full",
+            Kind::Junk => "junk",
+        }
+    }
+
+    pub fn from_name(name: &str) -> Option<Kind> {
+        Kind::ALL.into_iter().find(|kind| kind.name() == name)
+    }
+}
+
+/// A journal of so many whole records, some with a cut or bad record after
+/// them. The same arguments give the same bytes.
+pub fn journal(kind: Kind, seed: u64, records: usize) -> Vec<u8> {
+    let mut generator = Generator {
+        random: Random::new(seed ^ ((kind as u64) << 56)),
+        machine: Machine::boot(),
+        bytes: Vec::new(),
+        left: records,
+    };
+    match kind {
+        Kind::Mixed => {
+            let children = 1 + generator.random.below(5);
+            generator.settle(children, 25);
+        }
+        Kind::Deep => {
+            let children = 1 + generator.random.below(3);
+            generator.settle(children, 0);
+        }
+        Kind::Full => generator.settle(DOMAINS - 2, 10),
+        Kind::Junk => {}
+    }
+    while generator.left > 0 {
+        generator.step(kind);
+    }
+    generator.finish()
+}
+
+/// An execution context as its record tells.
+#[derive(Clone, Copy)]
+struct Context {
+    number: u32,
+    domain: u32,
+    cpu: u32,
+}
+
+/// The root execution context at boot.
+const ROOT: Context = Context {
+    number: ROOT_EC,
+    domain: 1,
+    cpu: 0,
+};
+
+/// Root selectors that the first calls of a journal fill: PDs, then their ECs,
+/// then the portals to those ECs and to two ECs of the root.
+const PD_SELECTOR: u32 = 35;
+const EC_SELECTOR: u32 = 42;
+const PT_SELECTOR: u32 = 48;
+const PT_ORDER: u32 = 3;
+const ROOT_SECOND_EC: u32 = 41;
+
+/// Bits of an item's second word.
+const DELEGATE: u32 = 1;
+const HYPERVISOR: u32 = 1 << 11;
+const HOTSPOT_SHIFT: u32 = 12;
+
+struct Generator {
+    random: Random,
+    machine: Machine,
+    bytes: Vec<u8>,
+    left: usize,
+}
+
+/// A typed item: descriptor and second word.
+type Item = (u32, u32);
+
+impl Generator {
+    // What the tables hold.
+
+    fn row(&self, domain: u32, space: Space, selector: u32) -> [u32; PLACE_WIDTH] {
+        let place = domain * DOMAIN_PLACES + SPACE_START[space as usize] + selector;
+        let start = place as usize * PLACE_WIDTH;
+        std::array::from_fn(|word| self.machine.places[start + word])
+    }
+
+    fn record(&self, number: u32) -> [u32; OBJECT_WIDTH] {
+        let start = number as usize * OBJECT_WIDTH;
+        std::array::from_fn(|word| self.machine.objects[start + word])
+    }
+
+    fn contexts(&self) -> Vec<Context> {
+        let all = (0..OBJECTS as u32).map(|number| (number, self.record(number)));
+        all.filter(|(_, record)| record[0] == ObjectKind::Ec as u32)
+            .map(|(number, record)| Context {
+                number,
+                domain: record[1],
+                cpu: record[2],
+            })
+            .collect()
+    }
+
+    /// Selectors of a space whose places are live, or null.
+    fn selectors(&self, domain: u32, space: Space, live: bool) -> Vec<u32> {
+        let all = 0..space.selectors();
+        all.filter(|&selector| (self.row(domain, space, selector)[1] != 0) == live)
+            .collect()
+    }
+
+    /// Selectors that name objects of a kind with a permission.
+    fn named(&self, domain: u32, kind: ObjectKind, permission: u32) -> Vec<u32> {
+        let live = self.selectors(domain, Space::Object, true);
+        let good = |&selector: &u32| {
+            let [resource, permissions, ..] = self.row(domain, Space::Object, selector);
+            permissions & permission != 0 && self.record(resource)[0] == kind as u32
+        };
+        live.into_iter().filter(good).collect()
+    }
+
+    /// Portals that an execution context can call through, with the callees.
+    fn portals(&self, caller: Context) -> Vec<(u32, Context)> {
+        let contexts = self.contexts();
+        let portals = self.named(caller.domain, ObjectKind::Pt, CALL_PT);
+        let callee = |selector: u32| {
+            let portal = self.row(caller.domain, Space::Object, selector)[0];
+            let ec = self.record(portal)[1];
+            contexts
+                .iter()
+                .copied()
+                .find(|context| context.number == ec)
+        };
+        portals
+            .into_iter()
+            .filter_map(|selector| Some((selector, callee(selector)?)))
+            .filter(|(_, callee)| callee.number != caller.number && callee.cpu == caller.cpu)
+            .collect()
+    }
+
+    /// The nearest ancestor's selector in a domain.
+    fn ancestor(&self, domain: u32, space: Space, selector: u32, wanted: u32) -> Option<u32> {
+        let mut parent = self.row(domain, space, selector)[2];
+        loop {
+            let place = parent.checked_sub(1)?;
+            let (above, within) = (place / DOMAIN_PLACES, place % DOMAIN_PLACES);
+            let above_selector = within - SPACE_START[space as usize];
+            if above == wanted {
+                return Some(above_selector);
+            }
+            parent = self.row(above, space, above_selector)[2];
+        }
+    }
+
+    // Writing records.
+
+    /// Writes a record and runs it, unless the journal is long enough already.
+    fn run(&mut self, mut record: Record) {
+        if let Some(left) = self.left.checked_sub(1) {
+            self.left = left;
+            record.write(&mut self.bytes);
+            self.machine.run(&mut record);
+        }
+    }
+
+    fn make(&self, hypercall: Hypercall, caller: u32, arguments: &[u32]) -> Record {
+        let mut record = Record::empty(hypercall);
+        record.caller = caller;
+        for (word, argument) in record.arguments.iter_mut().zip(arguments) {
+            *word = *argument;
+        }
+        record
+    }
+
+    fn finish(mut self) -> Vec<u8> {
+        match self.random.below(10) {
+            0 => {
+                let unbuilt = [1, 9, 10, 12, 64, 127, 128, 255];
+                self.bytes.extend(self.random.pick(&unbuilt));
+                let rest = self.random.below(20);
+                self.bytes.extend((0..rest).map(|byte| byte as u8));
+            }
+            1 | 2 => {
+                if let Some(hypercall) = self.random.pick(&Hypercall::ALL) {
+                    self.bytes.push(hypercall.number() as u8);
+                    let rest = self.random.below(body_bytes(hypercall) as u32);
+                    self.bytes.extend((0..rest).map(|byte| byte as u8));
+                }
+            }
+            _ => {}
+        }
+        self.bytes
+    }
+
+    // Words.
+
+    /// A word at some edge, or any word.
+    fn odd_word(&mut self) -> u32 {
+        let edges = [0, 1, 2, 31, 32, 63, 64, 65, 1 << 31, u32::MAX - 1, u32::MAX];
+        if self.random.percent(60) {
+            self.random.pick(&edges).unwrap_or(0)
+        } else {
+            self.random.word() >> self.random.below(32)
+        }
+    }
+
+    fn space(&mut self) -> Space {
+        match self.random.below(10) {
+            0..=3 => Space::Memory,
+            4..=5 => Space::Io,
+            _ => Space::Object,
+        }
+    }
+
+    fn mask(&mut self) -> u32 {
+        if self.random.percent(65) {
+            FULL_MASK
+        } else {
+            self.random.below(FULL_MASK + 1)
+        }
+    }
+
+    /// A small order, rarely one that is out of bounds.
+    fn order(&mut self) -> u32 {
+        match self.random.below(20) {
+            0..=7 => 0,
+            8..=12 => 1,
+            13..=15 => 2,
+            16 => 3,
+            17 => 4,
+            18 => self.random.below(7),
+            _ => self.random.below(9),
+        }
+    }
+
+    /// The widest order in so many cases of a hundred, else a small one.
+    fn window_order(&mut self, space: Space, chance: u32) -> u32 {
+        if self.random.percent(chance) {
+            space.order_limit()
+        } else {
+            self.order()
+        }
+    }
+
+    /// A descriptor of the aligned range around a selector.
+    fn around(&mut self, space: Space, selector: u32, order: u32, mask: u32) -> u32 {
+        let base = selector >> order << order;
+        // Object bases wrap, so any multiple of the space's size may be added.
+        let turns = match space {
+            Space::Object if self.random.percent(10) => self.random.below(1 << 14),
+            _ => 0,
+        };
+        Descriptor::new(space, base + turns * space.selectors(), order, mask).word()
+    }
+
+    /// A descriptor of some range, mostly well-formed.
+    fn some_descriptor(&mut self, domain: u32) -> u32 {
+        let space = self.space();
+        let order = self.order();
+        let mask = self.mask();
+        match self.random.below(20) {
+            0 => self.random.word(),
+            1 => self.random.word() & !3,
+            2 => Descriptor::new(space, self.random.below(80), order, mask).word(),
+            _ => {
+                let live = self.selectors(domain, space, true);
+                let anywhere = self.random.below(space.selectors());
+                let selector = self.random.pick(&live).unwrap_or(anywhere);
+                self.around(space, selector, order, mask)
+            }
+        }
+    }
+
+    /// An object selector word, at times past the end of the space.
+    fn selector_word(&mut self, selector: u32) -> u32 {
+        if self.random.percent(5) {
+            let turns = self.random.below(1 << 26);
+            selector + turns * Space::Object.selectors()
+        } else {
+            selector
+        }
+    }
+
+    fn null_selector(&mut self, domain: u32) -> u32 {
+        let null = self.selectors(domain, Space::Object, false);
+        let anywhere = self.random.below(Space::Object.selectors());
+        let selector = self.random.pick(&null).unwrap_or(anywhere);
+        self.selector_word(selector)
+    }
+
+    fn named_selector(&mut self, domain: u32, kind: ObjectKind, permission: u32) -> u32 {
+        let named = self.named(domain, kind, permission);
+        let anywhere = self.random.below(Space::Object.selectors());
+        let selector = self.random.pick(&named).unwrap_or(anywhere);
+        self.selector_word(selector)
+    }
+
+    fn qpd(&mut self) -> u32 {
+        let priority = 1 + self.random.below(255);
+        let quantum = 1 + self.random.below((1 << 20) - 1);
+        let ignored = self.random.below(16) << 8;
+        match self.random.below(12) {
+            0 => quantum << 12 | ignored,
+            1 => priority | ignored,
+            _ => priority | ignored | quantum << 12,
+        }
+    }
+
+    fn caller(&mut self) -> Context {
+        let contexts = self.contexts();
+        if self.random.percent(40) {
+            ROOT
+        } else {
+            self.random.pick(&contexts).unwrap_or(ROOT)
+        }
+    }
+
+    /// An execution context whose domain holds the deepest capability that can still be handed on.
+    fn deepest_caller(&mut self, space: Space) -> Context {
+        let contexts = self.contexts();
+        let depth = |domain: u32| {
+            let depths =
+                (0..space.selectors()).map(|selector| self.row(domain, space, selector)[3]);
+            depths.filter(|&depth| depth < DEPTH_LIMIT).max()
+        };
+        let depths: Vec<Option<u32>> = contexts
+            .iter()
+            .map(|context| depth(context.domain))
+            .collect();
+        let most = depths.iter().max().copied().flatten();
+        let best = contexts
+            .iter()
+            .zip(&depths)
+            .filter(|(_, &depth)| depth == most);
+        let best: Vec<Context> = best.map(|(context, _)| *context).collect();
+        self.random.pick(&best).unwrap_or(ROOT)
+    }
+
+    // Calls.
+
+    /// Creates domains below the root, an execution context in each, and
+    /// portals to all of them in every domain.
+    fn settle(&mut self, children: u32, other_cpu: u32) {
+        for child in 0..children {
+            let order = self.random.below(3);
+            let mask = self.mask();
+            let initial = match self.random.below(4) {
+                0 => Descriptor::NULL.word(),
+                _ => Descriptor::new(Space::Object, ROOT_SELECTOR, order, mask).word(),
+            };
+            let record = self.make(
+                Hypercall::CreatePd,
+                ROOT_EC,
+                &[PD_SELECTOR + child, ROOT_SELECTOR, initial],
+            );
+            self.run(record);
+        }
+        let pds = (0..children).map(|child| (EC_SELECTOR + child, PD_SELECTOR + child));
+        for (new, pd) in pds.chain([(ROOT_SECOND_EC, ROOT_SELECTOR)]) {
+            let cpu = if self.random.percent(other_cpu) {
+                self.random.below(CPUS)
+            } else {
+                0
+            };
+            let event_base = self.odd_word();
+            let record = self.make(Hypercall::CreateEc, ROOT_EC, &[new, pd, cpu, event_base]);
+            self.run(record);
+        }
+        let ecs = (0..children).map(|child| EC_SELECTOR + child);
+        for (offset, ec) in ecs.chain([ROOT_SECOND_EC, ROOT_SELECTOR + 1]).enumerate() {
+            let words = [self.odd_word(), self.odd_word(), self.odd_word()];
+            let new = PT_SELECTOR + offset as u32;
+            let [mtd, ip, identifier] = words;
+            let record = self.make(
+                Hypercall::CreatePt,
+                ROOT_EC,
+                &[new, ROOT_SELECTOR, ec, mtd, ip, identifier],
+            );
+            self.run(record);
+        }
+        let portals = Descriptor::new(Space::Object, PT_SELECTOR, PT_ORDER, FULL_MASK).word();
+        for child in 0..children {
+            let record = self.message(
+                ROOT,
+                PT_SELECTOR + child,
+                0,
+                portals,
+                &[(portals, DELEGATE)],
+            );
+            self.run(record);
+        }
+    }
+
+    /// A CALL with these windows and items, and some untyped words.
+    fn message(
+        &mut self,
+        caller: Context,
+        portal: u32,
+        translate_window: u32,
+        delegate_window: u32,
+        items: &[Item],
+    ) -> Record {
+        let mut record = self.make(Hypercall::Call, caller.number, &[portal]);
+        record.source.fill_with(|| self.random.word());
+        record.target.fill_with(|| self.random.word());
+        record.target[1] = translate_window;
+        record.target[2] = delegate_window;
+        let room = (DATA_WORDS - 2 * items.len()) as u32;
+        let untyped = self.random.below(room + 1);
+        record.source[0] = untyped | (items.len() as u32) << 16;
+        let slots = record.source[HEADER_WORDS..].rchunks_exact_mut(2);
+        for (slot, (descriptor, second)) in slots.zip(items) {
+            slot[1] = *descriptor;
+            slot[0] = *second;
+        }
+        record
+    }
+
+    /// The bits of a second word that are ignored, at times set.
+    fn ignored_bits(&mut self) -> u32 {
+        if self.random.percent(20) {
+            self.random.word() & 0x7fe
+        } else {
+            0
+        }
+    }
+
+    /// A delegate item of a live source place, towards a null place of the window.
+    fn delegate_item(
+        &mut self,
+        sender: u32,
+        receiver: u32,
+        space: Space,
+        order: u32,
+        deepest: bool,
+    ) -> Item {
+        let chance = if deepest { 8 } else { 35 };
+        let hypervisor = sender == 1
+            && (self.random.percent(chance) || self.selectors(1, space, true).is_empty());
+        let from = if hypervisor { 0 } else { sender };
+        let live = self.selectors(from, space, true);
+        let source = if deepest {
+            let below_limit = self.random.percent(80);
+            let depth = |&selector: &u32| self.row(from, space, selector)[3];
+            let usable = |selector: &u32| !below_limit || depth(selector) < DEPTH_LIMIT;
+            live.iter().copied().filter(usable).max_by_key(depth)
+        } else {
+            self.random.pick(&live)
+        };
+        let anywhere = self.random.below(space.selectors());
+        let source = source.unwrap_or(anywhere);
+        let null = self.selectors(receiver, space, false);
+        let destination = self.random.pick(&null).unwrap_or(anywhere);
+        let mask = if deepest && self.random.percent(75) {
+            FULL_MASK
+        } else {
+            self.mask()
+        };
+        let descriptor = self.around(space, source, order, mask);
+        let hotspot = if order <= 2 { destination } else { source };
+        let flags = if hypervisor || self.random.percent(5) {
+            HYPERVISOR
+        } else {
+            0
+        };
+        let turns = if self.random.percent(20) {
+            self.random.below(1 << 14)
+        } else {
+            0
+        };
+        let hotspot = (hotspot + turns * space.selectors()) << HOTSPOT_SHIFT;
+        (descriptor, hotspot | flags | self.ignored_bits() | DELEGATE)
+    }
+
+    /// A delegate item within a domain, of the place that the item before may just have filled.
+    fn chained_item(&mut self, domain: u32, space: Space, (_, second): Item) -> Item {
+        let source = (second >> HOTSPOT_SHIFT) % space.selectors();
+        let null = self.selectors(domain, space, false);
+        let destination = self.random.pick(&null).unwrap_or(source);
+        let mask = self.mask();
+        let descriptor = self.around(space, source, 0, mask);
+        (descriptor, destination << HOTSPOT_SHIFT | DELEGATE)
+    }
+
+    /// A translate item: mostly of a place that came from the receiver's domain.
+    fn translate_item(&mut self, sender: u32, receiver: u32, space: Space) -> (Item, u32) {
+        let live = self.selectors(sender, space, true);
+        let came = |&selector: &u32| self.ancestor(sender, space, selector, receiver).is_some();
+        let inherited: Vec<u32> = live.iter().copied().filter(came).collect();
+        let choice = if self.random.percent(80) {
+            &inherited
+        } else {
+            &live
+        };
+        let anywhere = self.random.below(space.selectors());
+        let selector = self.random.pick(choice).unwrap_or(anywhere);
+        let origin = self
+            .ancestor(sender, space, selector, receiver)
+            .unwrap_or(anywhere);
+        let order = self.order();
+        let mask = self.mask();
+        let descriptor = self.around(space, selector, order, mask);
+        let window_order = self.window_order(space, 60);
+        let window_mask = self.mask();
+        let window = self.around(space, origin, window_order, window_mask);
+        let unread = if self.random.percent(30) {
+            self.random.word() & !DELEGATE
+        } else {
+            0
+        };
+        ((descriptor, unread), window)
+    }
+
+    /// A CALL with delegations, translations or both.
+    fn call(&mut self, deep: bool) -> Record {
+        let space = self.space();
+        let mut caller = if deep && self.random.percent(70) {
+            self.deepest_caller(space)
+        } else {
+            self.caller()
+        };
+        let mut portals = self.portals(caller);
+        if portals.is_empty() {
+            caller = ROOT;
+            portals = self.portals(caller);
+        }
+        let Some((portal, callee)) = self.random.pick(&portals) else {
+            return self.portal_to_be();
+        };
+        let (sender, receiver) = (caller.domain, callee.domain);
+        let null = self.selectors(receiver, space, false);
+        let anywhere = self.random.below(space.selectors());
+        let target = self.random.pick(&null).unwrap_or(anywhere);
+        // The widest window lets each hotspot pick its destination.
+        let window_order = self.window_order(space, if deep { 85 } else { 45 });
+        let window_mask = self.mask();
+        let mut delegate_window = self.around(space, target, window_order, window_mask);
+        let translate_space = self.space();
+        let (first, mut translate_window) = self.translate_item(sender, receiver, translate_space);
+        let count = match self.random.below(20) {
+            0 => 0,
+            1 => 30,
+            2..=4 => self.random.below(12),
+            _ => 1 + self.random.below(4),
+        };
+        let mut items: Vec<Item> = Vec::new();
+        for _ in 0..count {
+            let item = match self.random.below(20) {
+                0 => (self.some_descriptor(sender), self.random.word()),
+                1..=3 => first,
+                6..=8 if sender == receiver && !items.is_empty() => {
+                    self.chained_item(receiver, space, items[items.len() - 1])
+                }
+                4..=5 => self.translate_item(sender, receiver, translate_space).0,
+                _ => {
+                    let space = if self.random.percent(6) {
+                        self.space()
+                    } else {
+                        space
+                    };
+                    let order = if deep && self.random.percent(70) {
+                        0
+                    } else {
+                        self.order()
+                    };
+                    self.delegate_item(sender, receiver, space, order, deep)
+                }
+            };
+            items.push(item);
+        }
+        if self.random.percent(4) {
+            translate_window = self.some_descriptor(receiver);
+        }
+        if self.random.percent(4) {
+            delegate_window = self.some_descriptor(receiver);
+        }
+        let mut record = self.message(caller, portal, translate_window, delegate_window, &items);
+        match self.random.below(50) {
+            0 => record.source[0] = self.random.word(),
+            // One untyped word too many.
+            1 => {
+                let typed = items.len();
+                record.source[0] = ((DATA_WORDS + 1 - 2 * typed) | typed << 16) as u32;
+            }
+            2 => record.arguments[0] = self.named_selector(sender, ObjectKind::Pt, CALL_PT),
+            _ => {}
+        }
+        record
+    }
+
+    /// A creation by which the root may come to hold a portal.
+    fn portal_to_be(&mut self) -> Record {
+        let new = self.null_selector(1);
+        let pd = self.named_selector(1, ObjectKind::Pd, FULL_MASK);
+        if self.random.percent(50) {
+            let event_base = self.odd_word();
+            return self.make(Hypercall::CreateEc, ROOT_EC, &[new, pd, 0, event_base]);
+        }
+        let ec = self.named_selector(1, ObjectKind::Ec, BIND_PT);
+        self.make(Hypercall::CreatePt, ROOT_EC, &[new, pd, ec])
+    }
+
+    fn create(&mut self) -> Record {
+        let Context { number, domain, .. } = self.caller();
+        let new = self.null_selector(domain);
+        let kinds = [
+            ObjectKind::Pd,
+            ObjectKind::Ec,
+            ObjectKind::Sc,
+            ObjectKind::Pt,
+            ObjectKind::Sm,
+        ];
+        let kind = self.random.pick(&kinds).unwrap_or(ObjectKind::Sm);
+        let pd = self.named_selector(domain, ObjectKind::Pd, kind.create_permission());
+        match kind {
+            ObjectKind::Pd => {
+                let initial = self.some_descriptor(domain);
+                self.make(Hypercall::CreatePd, number, &[new, pd, initial])
+            }
+            ObjectKind::Ec => {
+                let cpu = if self.random.percent(90) {
+                    self.random.below(2)
+                } else {
+                    self.random.below(6)
+                };
+                let event_base = self.odd_word();
+                self.make(Hypercall::CreateEc, number, &[new, pd, cpu, event_base])
+            }
+            ObjectKind::Sc => {
+                let ec = self.named_selector(domain, ObjectKind::Ec, BIND_SC);
+                let qpd = self.qpd();
+                self.make(Hypercall::CreateSc, number, &[new, pd, ec, qpd])
+            }
+            ObjectKind::Pt => {
+                let ec = self.named_selector(domain, ObjectKind::Ec, BIND_PT);
+                let words = [self.odd_word(), self.odd_word(), self.odd_word()];
+                let [mtd, ip, identifier] = words;
+                self.make(
+                    Hypercall::CreatePt,
+                    number,
+                    &[new, pd, ec, mtd, ip, identifier],
+                )
+            }
+            ObjectKind::Sm => {
+                let count = self.odd_word();
+                self.make(Hypercall::CreateSm, number, &[new, pd, count])
+            }
+        }
+    }
+
+    fn revoke(&mut self, deep: bool) -> Record {
+        let Context { number, domain, .. } = self.caller();
+        let space = self.space();
+        let live = self.selectors(domain, space, true);
+        let anywhere = self.random.below(space.selectors());
+        let selector = self.random.pick(&live).unwrap_or(anywhere);
+        let order = if deep { 0 } else { self.order() };
+        let mask = match self.random.below(10) {
+            0..=2 if !deep => FULL_MASK,
+            0 => FULL_MASK,
+            1..=8 => 1 << self.random.below(5),
+            _ => self.random.below(FULL_MASK + 1),
+        };
+        // The root's own objects mostly stay, so that the journal can go on.
+        let keep = domain == 1 && space == Space::Object && self.random.percent(90);
+        let self_word = match self.random.below(20) {
+            0 => self.odd_word(),
+            _ if keep => 0,
+            draw => draw % 2,
+        };
+        let descriptor = match self.random.below(12) {
+            0 => self.some_descriptor(domain),
+            _ => self.around(space, selector, order, mask),
+        };
+        self.make(Hypercall::Revoke, number, &[descriptor, self_word])
+    }
+
+    fn lookup(&mut self) -> Record {
+        let Context { number, domain, .. } = self.caller();
+        let descriptor = self.some_descriptor(domain);
+        self.make(Hypercall::Lookup, number, &[descriptor])
+    }
+
+    fn sm_ctrl(&mut self) -> Record {
+        let Context { number, domain, .. } = self.caller();
+        let operation = if self.random.percent(92) {
+            self.random.below(2)
+        } else {
+            self.odd_word()
+        };
+        let selector = self.named_selector(domain, ObjectKind::Sm, 1 << (operation & 1));
+        self.make(Hypercall::SmCtrl, number, &[selector, operation])
+    }
+
+    /// A record of words drawn without regard to the tables.
+    fn junk(&mut self) -> Record {
+        let hypercall = self
+            .random
+            .pick(&Hypercall::ALL)
+            .unwrap_or(Hypercall::Lookup);
+        let mut record = Record::empty(hypercall);
+        record.caller = if self.random.percent(70) {
+            ROOT_EC
+        } else {
+            self.odd_word()
+        };
+        for word in 0..record.arguments.len() {
+            record.arguments[word] = match self.random.below(4) {
+                0 => self.odd_word(),
+                1 => self.some_descriptor(1),
+                2 => ROOT_SELECTOR + self.random.below(4),
+                _ => self.random.below(64),
+            };
+        }
+        record.source.fill_with(|| self.random.word());
+        record.target.fill_with(|| self.random.word());
+        record
+    }
+
+    /// Spoils one word of a good record.
+    fn spoil(&mut self, record: &mut Record) {
+        match self.random.below(3) {
+            0 => record.caller = self.odd_word(),
+            1 => record.caller = self.random.below(OBJECTS as u32),
+            _ => {
+                let word = self.random.below(4) as usize;
+                record.arguments[word] = self.odd_word();
+            }
+        }
+    }
+
+    fn step(&mut self, kind: Kind) {
+        let draw = self.random.below(100);
+        let mut record = match kind {
+            Kind::Mixed => match draw {
+                0..=44 => self.call(false),
+                45..=59 => self.create(),
+                60..=73 => self.revoke(false),
+                74..=87 => self.lookup(),
+                88..=97 => self.sm_ctrl(),
+                _ => self.junk(),
+            },
+            Kind::Deep => match draw {
+                0..=79 => self.call(true),
+                80..=82 => self.create(),
+                83..=89 => self.revoke(true),
+                90..=97 => self.lookup(),
+                _ => self.sm_ctrl(),
+            },
+            Kind::Full => match draw {
+                0..=44 => self.create(),
+                45..=69 => self.call(false),
+                70..=79 => self.revoke(false),
+                80..=89 => self.lookup(),
+                _ => self.sm_ctrl(),
+            },
+            Kind::Junk => self.junk(),
+        };
+        if self.random.percent(5) {
+            self.spoil(&mut record);
+        }
+        self.run(record);
+    }
+}

@@ -1,0 +1,347 @@
+//! The interface's worked examples, and the slips it warns of.
+
+use model::descriptor::{Descriptor, Malformed};
+use model::journal::{self, Record};
+use model::tables::Space;
+use model::Hypercall;
+
+use crate::world::*;
+
+/// Checks that the child's pages from `to` came from domain 0's pages from `from`.
+fn pages_went(world: &World, from: u32, to: u32, count: u32) {
+    for selector in 0..64 {
+        let row = world.row(place(2, MEMORY, selector));
+        if (to..to + count).contains(&selector) {
+            let source = from + selector - to;
+            assert_eq!(row, [source, 7, place(0, MEMORY, source) + 1, 1]);
+        } else {
+            assert_eq!(row, NULL, "page {selector}");
+        }
+    }
+}
+
+#[test]
+fn a_small_range_goes_into_a_large_window() {
+    let mut world = World::partners();
+    let item = (range(MEMORY, 8, 2, 31), hot(23) | FROM_HYPERVISOR);
+    let target = windows(0, range(MEMORY, 32, 4, 0));
+    let (filled, block) = world.sends(ROOT_EC, TO_CHILD, message(0, &[item]), target);
+    assert_eq!(filled, 4);
+    pages_went(&world, 8, 36, 4);
+    assert_eq!(block[63], range(MEMORY, 36, 2, 31));
+}
+
+#[test]
+fn a_large_range_goes_into_a_small_window() {
+    let mut world = World::partners();
+    let item = (range(MEMORY, 16, 4, 31), hot(13) | FROM_HYPERVISOR);
+    let target = windows(0, range(MEMORY, 4, 1, 0));
+    let (filled, block) = world.sends(ROOT_EC, TO_CHILD, message(0, &[item]), target);
+    assert_eq!(filled, 2);
+    pages_went(&world, 28, 4, 2);
+    assert_eq!(block[63], range(MEMORY, 4, 1, 31));
+}
+
+fn is_malformed(space: Space, base: u32, order: u32) -> bool {
+    Descriptor::new(space, base, order, 31).range() == Err(Malformed)
+}
+
+#[test]
+fn alignment_of_bases() {
+    for space in Space::ALL {
+        assert!(!is_malformed(space, 8, 3));
+        assert!(is_malformed(space, 4, 3));
+        assert!(!is_malformed(space, 0, 3));
+    }
+}
+
+#[test]
+fn bounds_of_orders() {
+    for space in Space::ALL {
+        assert!(!is_malformed(space, 0, 6));
+        assert!(is_malformed(space, 0, 7));
+        assert!(is_malformed(space, 0, 31));
+    }
+}
+
+#[test]
+fn object_bases_wrap_and_others_do_not() {
+    let wrapped = Descriptor::new(Space::Object, 64, 0, 31).range();
+    assert_eq!(wrapped, Descriptor::new(Space::Object, 0, 0, 31).range());
+    assert!(matches!(wrapped, Ok(Some(range)) if range.base.number() == 0));
+    assert!(is_malformed(Space::Memory, 64, 0));
+    assert!(is_malformed(Space::Io, 64, 0));
+    // An aligned base cannot make a range cross the end; the first one past it can.
+    assert!(!is_malformed(Space::Memory, 32, 5));
+    assert!(is_malformed(Space::Memory, 64, 5));
+    assert!(!is_malformed(Space::Memory, 63, 0));
+}
+
+#[test]
+fn a_mask_keeps_its_bits_in_delegation() {
+    let mut world = World::partners();
+    let window = range(MEMORY, 5, 0, 31);
+    assert_eq!(
+        world.gives(
+            TO_CHILD,
+            range(MEMORY, 5, 0, 0),
+            window,
+            hot(0) | FROM_HYPERVISOR
+        ),
+        0
+    );
+    assert_eq!(world.row(place(2, MEMORY, 5)), NULL);
+    assert_eq!(
+        world.gives(
+            TO_CHILD,
+            range(MEMORY, 5, 0, 3),
+            window,
+            hot(0) | FROM_HYPERVISOR
+        ),
+        1
+    );
+    assert_eq!(
+        world.row(place(2, MEMORY, 5)),
+        [5, 3, place(0, MEMORY, 5) + 1, 1]
+    );
+}
+
+/// A line of permissions 7, 3, 2 on page 9: root selectors 1, 2 and the child's 3.
+fn line() -> World {
+    let mut world = World::partners();
+    let one = range(MEMORY, 1, 0, 31);
+    assert_eq!(
+        world.gives(
+            TO_ROOT_2,
+            range(MEMORY, 9, 0, 31),
+            one,
+            hot(0) | FROM_HYPERVISOR
+        ),
+        1
+    );
+    assert_eq!(
+        world.gives(
+            TO_ROOT_2,
+            range(MEMORY, 1, 0, 3),
+            range(MEMORY, 2, 0, 0),
+            hot(0)
+        ),
+        1
+    );
+    assert_eq!(
+        world.gives(
+            TO_CHILD,
+            range(MEMORY, 2, 0, 2),
+            range(MEMORY, 3, 0, 0),
+            hot(0)
+        ),
+        1
+    );
+    assert_eq!(permissions(&world), [7, 3, 2]);
+    world
+}
+
+fn permissions(world: &World) -> [u32; 3] {
+    [
+        place(1, MEMORY, 1),
+        place(1, MEMORY, 2),
+        place(2, MEMORY, 3),
+    ]
+    .map(|place| world.row(place)[1])
+}
+
+#[test]
+fn a_line_revoked_below() {
+    let mut world = line();
+    world.does(REVOKE, ROOT_EC, &[range(MEMORY, 1, 0, 2), 0]);
+    assert_eq!(permissions(&world), [7, 1, 0]);
+    assert_eq!(world.row(place(2, MEMORY, 3)), NULL);
+    assert_eq!(
+        world.row(place(1, MEMORY, 2)),
+        [9, 1, place(1, MEMORY, 1) + 1, 2]
+    );
+}
+
+#[test]
+fn a_line_revoked_with_its_start() {
+    let mut world = line();
+    world.does(REVOKE, ROOT_EC, &[range(MEMORY, 1, 0, 2), 1]);
+    assert_eq!(permissions(&world), [5, 1, 0]);
+    assert_eq!(world.row(place(2, MEMORY, 3)), NULL);
+}
+
+#[test]
+fn lookups_after_boot() {
+    let mut world = World::boot();
+    assert_eq!(
+        world.does(LOOKUP, ROOT_EC, &[range(OBJECT, 32, 0, 0)]),
+        131_199
+    );
+    assert_eq!(world.does(LOOKUP, ROOT_EC, &[range(OBJECT, 35, 0, 0)]), 0);
+}
+
+#[test]
+fn a_lookup_finds_the_whole_run() {
+    let mut world = World::partners();
+    let item = range(MEMORY, 0, 3, 31);
+    assert_eq!(
+        world.gives(
+            TO_ROOT_2,
+            item,
+            range(MEMORY, 8, 3, 0),
+            hot(0) | FROM_HYPERVISOR
+        ),
+        8
+    );
+    assert_eq!(
+        world.does(LOOKUP, ROOT_EC, &[range(MEMORY, 10, 0, 0)]),
+        33_181
+    );
+}
+
+#[test]
+fn the_example_journal() {
+    let mut bytes = Vec::new();
+    let mut record = Record::empty(Hypercall::CreateSm);
+    record.caller = 29;
+    record.arguments[..3].copy_from_slice(&[40, 32, 0]);
+    record.write(&mut bytes);
+    assert_eq!(
+        bytes,
+        [6, 29, 0, 0, 0, 40, 0, 0, 0, 32, 0, 0, 0, 0, 0, 0, 0]
+    );
+    let mut record = Record::empty(Hypercall::Lookup);
+    record.caller = 29;
+    record.arguments[0] = 163_843;
+    record.write(&mut bytes);
+    assert_eq!(journal::lines(&bytes), "0 6 0 0\n1 8 0 163855\nend 2\n");
+    // Cut, bad and empty journals.
+    assert_eq!(journal::lines(&[]), "end 0\n");
+    assert_eq!(
+        journal::lines(&bytes[..bytes.len() - 1]),
+        "0 6 0 0\ncut\nend 1\n"
+    );
+    assert_eq!(journal::lines(&bytes[..18]), "0 6 0 0\ncut\nend 1\n");
+    assert_eq!(journal::lines(&bytes[..17]), "0 6 0 0\nend 1\n");
+    assert_eq!(journal::lines(&[9]), "bad 9\nend 0\n");
+    assert_eq!(journal::lines(&[255, 6, 29, 0]), "bad 255\nend 0\n");
+    let mut bad = bytes.clone();
+    bad.splice(17..17, [1]);
+    assert_eq!(journal::lines(&bad), "0 6 0 0\nbad 1\nend 1\n");
+}
+
+#[test]
+fn a_journal_knows_its_kinds_and_lengths() {
+    let known = [
+        (0, 520),
+        (2, 16),
+        (3, 20),
+        (4, 20),
+        (5, 28),
+        (6, 16),
+        (7, 12),
+        (8, 8),
+        (11, 12),
+    ];
+    for kind in 0..=255u8 {
+        let body = known
+            .iter()
+            .find(|(known, _)| *known == kind)
+            .map(|(_, body)| *body);
+        let Some(body) = body else {
+            assert_eq!(journal::lines(&[kind]), format!("bad {kind}\nend 0\n"));
+            continue;
+        };
+        assert_eq!(journal::lines(&[kind]), "cut\nend 0\n");
+        let mut bytes = vec![0; 1 + body];
+        bytes[0] = kind;
+        assert_eq!(journal::lines(&bytes[..body]), "cut\nend 0\n");
+        assert_eq!(journal::lines(&bytes), format!("0 {kind} 18 0\nend 1\n"));
+    }
+}
+
+#[test]
+fn slip_the_mask_keeps_in_delegation_and_removes_in_revocation() {
+    let mut world = World::partners();
+    let window = range(MEMORY, 1, 0, 31);
+    assert_eq!(
+        world.gives(
+            TO_ROOT_2,
+            range(MEMORY, 1, 0, 5),
+            window,
+            hot(0) | FROM_HYPERVISOR
+        ),
+        1
+    );
+    assert_eq!(world.row(place(1, MEMORY, 1))[1], 5);
+    world.does(REVOKE, ROOT_EC, &[range(MEMORY, 1, 0, 4), 1]);
+    assert_eq!(world.row(place(1, MEMORY, 1))[1], 1);
+}
+
+#[test]
+fn slip_a_live_destination_stays() {
+    let mut world = World::partners();
+    let window = range(MEMORY, 0, 1, 31);
+    let one = range(MEMORY, 20, 0, 1);
+    assert_eq!(
+        world.gives(
+            TO_ROOT_2,
+            one,
+            range(MEMORY, 0, 0, 0),
+            hot(0) | FROM_HYPERVISOR
+        ),
+        1
+    );
+    let held = world.row(place(1, MEMORY, 0));
+    assert_eq!(
+        world.gives(
+            TO_ROOT_2,
+            range(MEMORY, 30, 1, 7),
+            window,
+            hot(0) | FROM_HYPERVISOR
+        ),
+        1
+    );
+    assert_eq!(world.row(place(1, MEMORY, 0)), held);
+    assert_eq!(world.row(place(1, MEMORY, 1))[0], 31);
+}
+
+#[test]
+fn slip_a_range_place_below_another_range_place_is_not_spared() {
+    let mut world = line();
+    // Both root places lie in the range 0..3, the second below the first.
+    world.does(REVOKE, ROOT_EC, &[range(MEMORY, 0, 2, 1), 0]);
+    assert_eq!(permissions(&world), [7, 2, 2]);
+    let mut world = line();
+    world.does(REVOKE, ROOT_EC, &[range(MEMORY, 0, 2, 31), 0]);
+    assert_eq!(permissions(&world), [7, 0, 0]);
+}
+
+#[test]
+fn slip_revocation_goes_below_the_children() {
+    let mut world = line();
+    world.does(REVOKE, ROOT_EC, &[range(MEMORY, 1, 0, 31), 0]);
+    assert_eq!(permissions(&world), [7, 0, 0]);
+    assert_eq!(world.row(place(2, MEMORY, 3)), NULL);
+}
+
+#[test]
+fn slip_only_the_root_takes_from_the_hypervisor() {
+    let mut world = World::partners();
+    let item = (range(MEMORY, 5, 0, 7), hot(0) | FROM_HYPERVISOR);
+    let target = windows(0, range(MEMORY, 5, 0, 0));
+    // The child sends with H set: its own page 5 is null, so nothing is filled.
+    let (filled, block) = world.sends(CHILD_EC, TO_ROOT, message(0, &[item]), target);
+    assert_eq!((filled, block[63]), (0, 0));
+    assert_eq!(world.row(place(1, MEMORY, 5)), NULL);
+    // The root's same item is filled from domain 0.
+    let (filled, _) = world.sends(ROOT_EC, TO_CHILD, message(0, &[item]), target);
+    assert_eq!(filled, 1);
+    // Now the child's own page goes on, H or not.
+    let (filled, _) = world.sends(CHILD_EC, TO_ROOT, message(0, &[item]), target);
+    assert_eq!(filled, 1);
+    assert_eq!(
+        world.row(place(1, MEMORY, 5)),
+        [5, 7, place(2, MEMORY, 5) + 1, 2]
+    );
+}

@@ -1,0 +1,164 @@
+//! The generator: the same bytes for the same arguments, and journals that
+//! reach what they are meant to reach.
+
+use std::collections::BTreeSet;
+
+use model::generator::{journal, Kind};
+use model::journal::{lines, Replay, Step};
+use model::Hypercall;
+
+#[test]
+fn the_same_arguments_give_the_same_bytes() {
+    let mut all = BTreeSet::new();
+    for kind in Kind::ALL {
+        assert_eq!(Kind::from_name(kind.name()), Some(kind));
+        for seed in 0..5 {
+            let bytes = journal(kind, seed, 80);
+            assert_eq!(bytes, journal(kind, seed, 80));
+            assert!(
+                all.insert(bytes),
+                "{} {seed} repeats another journal",
+                kind.name()
+            );
+        }
+    }
+    assert_eq!(Kind::from_name("other"), None);
+}
+
+/// What some journals reached.
+#[derive(Default)]
+struct Reached {
+    /// Hypercall number and status number.
+    statuses: BTreeSet<(u32, u32)>,
+    depth: u32,
+    domains: u32,
+    objects: usize,
+    /// Items by kind: shown and null, and translations of more than one place.
+    translated: u32,
+    translated_ranges: u32,
+    untranslated: u32,
+    delegated: u32,
+    delegated_ranges: u32,
+    undelegated: u32,
+    /// Delegations from domain 0, and within one domain.
+    from_hypervisor: u32,
+    within_domain: u32,
+    cuts: u32,
+    bads: u32,
+}
+
+fn reach(kind: Kind, seeds: u64, count: usize) -> Reached {
+    let mut reached = Reached::default();
+    for seed in 0..seeds {
+        let bytes = journal(kind, seed, count);
+        let mut replay = Replay::new(&bytes);
+        while let Step::Ran(_, reply) = replay.step() {
+            let call = replay.record.hypercall;
+            let status = reply.status.number();
+            reached.statuses.insert((call.number(), status));
+            if call == Hypercall::Call && status == 0 {
+                items(&replay, &mut reached);
+            }
+        }
+        let rows = replay.machine.places.chunks(4).zip(0u32..);
+        for (row, place) in rows {
+            reached.depth = reached.depth.max(row[3]);
+            if let Some(parent) = row[2].checked_sub(1) {
+                reached.from_hypervisor += u32::from(parent < 192);
+                reached.within_domain += u32::from(parent / 192 == place / 192);
+            }
+        }
+        let records = || replay.machine.objects.chunks(5);
+        reached.objects = reached
+            .objects
+            .max(records().filter(|record| record[0] != 0).count());
+        let domains = records()
+            .filter(|record| record[0] == 1)
+            .map(|record| record[1]);
+        reached.domains = reached.domains.max(domains.max().unwrap_or(0));
+        let lines = lines(&bytes);
+        reached.cuts += u32::from(lines.contains("cut"));
+        reached.bads += u32::from(lines.contains("bad"));
+        assert!(lines.ends_with(&format!("end {count}\n")));
+    }
+    reached
+}
+
+fn items(replay: &Replay, reached: &mut Reached) {
+    let (source, target) = (&replay.record.source, &replay.record.target);
+    for item in 0..(source[0] >> 16) as usize {
+        let shown = target[63 - 2 * item];
+        let ranges = u32::from(shown >> 7 & 31 > 0);
+        match (target[62 - 2 * item], shown) {
+            (0, 0) => reached.untranslated += 1,
+            (0, _) => {
+                reached.translated += 1;
+                reached.translated_ranges += ranges;
+            }
+            (_, 0) => reached.undelegated += 1,
+            _ => {
+                reached.delegated += 1;
+                reached.delegated_ranges += ranges;
+            }
+        }
+    }
+}
+
+#[test]
+fn mixed_journals_reach_every_status_of_every_call() {
+    let reached = reach(Kind::Mixed, 60, 300);
+    let possible: [(u32, &[u32]); 9] = [
+        (0, &[0, 1, 4, 5, 7, 18]),
+        (2, &[0, 4, 5, 16, 18]),
+        (3, &[0, 4, 7, 16, 18]),
+        (4, &[0, 4, 5, 16, 18]),
+        (5, &[0, 4, 16, 18]),
+        (6, &[0, 4, 16, 18]),
+        (7, &[0, 5, 18]),
+        (8, &[0, 5, 18]),
+        (11, &[0, 1, 4, 5, 18]),
+    ];
+    let possible: BTreeSet<(u32, u32)> = possible
+        .iter()
+        .flat_map(|(call, all)| all.iter().map(|status| (*call, *status)))
+        .collect();
+    assert_eq!(reached.statuses, possible);
+    assert!(
+        reached.translated > 500 && reached.translated_ranges > 50 && reached.untranslated > 500
+    );
+    assert!(
+        reached.delegated > 5000 && reached.delegated_ranges > 1000 && reached.undelegated > 1000
+    );
+    assert!(reached.from_hypervisor > 500 && reached.within_domain > 500);
+    assert!(reached.cuts > 0 && reached.bads > 0);
+}
+
+#[test]
+fn deep_journals_reach_the_depth_limit() {
+    let reached = reach(Kind::Deep, 12, 300);
+    assert_eq!(reached.depth, 31);
+    assert!(reached.translated > 100 && reached.translated_ranges > 5);
+}
+
+#[test]
+fn full_journals_use_all_records_and_domains() {
+    let reached = reach(Kind::Full, 12, 300);
+    assert_eq!((reached.objects, reached.domains), (64, 7));
+    for call in 2..7 {
+        assert!(
+            reached.statuses.contains(&(call, 16)),
+            "call {call} never lacked room"
+        );
+    }
+}
+
+#[test]
+fn junk_journals_are_mostly_refused() {
+    let reached = reach(Kind::Junk, 12, 300);
+    for status in [0, 4, 5, 7, 18] {
+        assert!(
+            reached.statuses.iter().any(|&(_, seen)| seen == status),
+            "status {status} was never met"
+        );
+    }
+}

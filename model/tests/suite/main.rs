@@ -1,0 +1,12 @@
+//! Tests of the model, by subject.
+
+mod checks;
+mod damage;
+mod examples;
+mod generator;
+mod history;
+mod messages;
+mod programs;
+mod totality;
+mod vectors;
+mod world;
