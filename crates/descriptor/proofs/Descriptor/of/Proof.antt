@@ -1,0 +1,31 @@
+-- The fields of a proper range are small enough that no part of the sum leaves a word.
+use native.Mathlib.Omega.{arith}
+use Rattle.descriptor.proofs.Descriptor.of.Statement.{statement}
+use Rattle.descriptor.proofs.Descriptor.of.Tie as tie
+
+add-t5 : tie.Need-add-t5
+add-t5 c = omega arith
+
+mul-t6 : tie.Need-mul-t6
+mul-t6 c = omega arith
+
+add-t7 : tie.Need-add-t7
+add-t7 c = omega arith
+
+mul-t8 : tie.Need-mul-t8
+mul-t8 c = omega arith
+
+add-t9 : tie.Need-add-t9
+add-t9 c = omega arith
+
+mul-t10 : tie.Need-mul-t10
+mul-t10 c = omega arith
+
+add-t11 : tie.Need-add-t11
+add-t11 c = omega arith
+
+returns : tie.Need-returns
+returns c = omega arith
+
+pub of-spec : {M : Type 1} → statement M
+of-spec = tie.close (tie.spec add-t5 mul-t6 add-t7 mul-t8 add-t9 mul-t10 add-t11 returns)

@@ -1,0 +1,232 @@
+-- Laws of numbers and descriptors: what each definition gives on each of its ways out, what that tells a caller, and that words, fields and ranges make each other.
+use Prim.Native.Nat.{ℕ, _+_, _-_, _*_, _/_, _%_, _^_, _≤_, _<_, _∣_}
+use mathlib.Core.Path.{_≡_, refl, subst, _∙_}
+use mathlib.Core.Bool.{Bool, true, false, cond, _&&_, _||_, and-eq-true-iff, or-true}
+use native.Mathlib.Nat.{mod-eq-of-lt, add-sub-cancel, div-div-eq-div-mul, dvd-mod-iff}
+use native.Mathlib.Omega.{arith}
+use lib.Dec.{ltb, leb, eqb}
+use lib.Pow.{pow-pos}
+use borrow.Author.Tests.{lt-ltb, le-ltb, le-leb, eq-eqb, ne-eqb, ltb-true, leb-true, eqb-true, eqb-false}
+use Rattle.words.specs.Sizes.{object, selectors, places, records, greatestOrder}
+use Rattle.words.specs.Ranges.{aligned}
+use Rattle.words.proofs.RangeLaws.{aligned-divides, size-divides, multiples-apart}
+use Rattle.descriptor.specs.declared.Place.{Place}
+use Rattle.descriptor.specs.declared.ObjectNumber.{ObjectNumber}
+use Rattle.descriptor.specs.declared.FoundPlace.the-variants.{At, Nowhere}
+use Rattle.descriptor.specs.declared.FoundObject.the-variants.{Numbered, Beyond}
+use Rattle.descriptor.specs.declared.Range.{Range}
+use Rattle.descriptor.specs.declared.Reading.{Reading}
+use Rattle.descriptor.specs.declared.Reading.the-variants.{Null, Malformed, Good}
+use Rattle.descriptor.specs.declared.Match.the-variants.{Both, Neither}
+use Rattle.descriptor.specs.declared.Reason.the-variants.{NullDescriptor, TypesDiffer}
+use Rattle.descriptor.specs.Numbers.{placed, numbered}
+use Rattle.descriptor.specs.Descriptors.{null, typeField, maskField, orderField, baseField, typeOf, wordOf, describe, wellFormed, wrapped, rangeOf, reading, matched, kept, Proper}
+
+-- places and object numbers
+
+pub placed-at : (word : ℕ) → word < places → placed word ≡ At (record { 0 = word })
+unfolding placed
+placed-at word h = rw (lt-ltb word places h)
+
+pub placed-nowhere : (word : ℕ) → places ≤ word → placed word ≡ Nowhere
+unfolding placed
+placed-nowhere word h = rw (le-ltb word places h)
+
+pub placed-inside : (word : ℕ) (place : Place) → placed word ≡ At place → (place .0 ≡ word) × (word < places)
+unfolding placed
+placed-inside word place h = go (ltb word places) refl h
+  where
+    go : (below : Bool) → ltb word places ≡ below → cond below (At (record { 0 = word })) Nowhere ≡ At place → (place .0 ≡ word) × (word < places)
+    go true e q = (cc, ltb-true word places e)
+    go false e q = let never : _≡_ {A = ℕ} 0 1 = cc in omega arith
+
+pub numbered-so : (word : ℕ) → word < records → numbered word ≡ Numbered (record { 0 = word })
+unfolding numbered
+numbered-so word h = rw (lt-ltb word records h)
+
+pub numbered-beyond : (word : ℕ) → records ≤ word → numbered word ≡ Beyond
+unfolding numbered
+numbered-beyond word h = rw (le-ltb word records h)
+
+pub numbered-inside : (word : ℕ) (number : ObjectNumber) → numbered word ≡ Numbered number → (number .0 ≡ word) × (word < records)
+unfolding numbered
+numbered-inside word number h = go (ltb word records) refl h
+  where
+    go : (below : Bool) → ltb word records ≡ below → cond below (Numbered (record { 0 = word })) Beyond ≡ Numbered number →
+        (number .0 ≡ word) × (word < records)
+    go true e q = (cc, ltb-true word records e)
+    go false e q = let never : _≡_ {A = ℕ} 0 1 = cc in omega arith
+
+-- the lowest field is a remainder, and the highest a quotient
+
+pub type-low : (word : ℕ) → typeField word ≡ word % 2 ^ 2
+type-low word = omega arith
+
+pub base-high : (word : ℕ) → word < 2 ^ 32 → baseField word ≡ word / 2 ^ 12
+base-high word h = omega arith
+
+-- a word and its fields make each other
+
+pub word-fields : (word : ℕ) → word < 2 ^ 32 → wordOf (typeField word) (maskField word) (orderField word) (baseField word) ≡ word
+word-fields word h =
+    let mask : word / 2 ^ 7 * 2 ^ 5 + maskField word ≡ word / 2 ^ 2 = omega (arith, div-div-eq-div-mul word (2 ^ 2) (2 ^ 5)) in
+    let order : word / 2 ^ 12 * 2 ^ 5 + orderField word ≡ word / 2 ^ 7 = omega (arith, div-div-eq-div-mul word (2 ^ 7) (2 ^ 5)) in
+    omega (arith, type-low word, base-high word h)
+
+pub fields-word : (type mask order base : ℕ) → type < 2 ^ 2 → mask < 2 ^ 5 → order < 2 ^ 5 → base < 2 ^ 20 →
+    (typeField (wordOf type mask order base) ≡ type) × (maskField (wordOf type mask order base) ≡ mask) ×
+    (orderField (wordOf type mask order base) ≡ order) × (baseField (wordOf type mask order base) ≡ base)
+fields-word type mask order base t m o b = (omega arith, omega arith, omega arith, omega arith)
+
+-- a word as a descriptor keeps it
+
+pub kept-null : (word : ℕ) → typeField word ≡ 0 → kept word ≡ null
+unfolding kept
+kept-null word h = rw (eq-eqb (typeField word) 0 h)
+
+pub kept-word : (word : ℕ) → (typeField word ≡ 0 → ⊥) → kept word ≡ word
+unfolding kept
+kept-word word h = rw (ne-eqb (typeField word) 0 h)
+
+-- a base as it is read
+
+pub wrapped-object : (space base : ℕ) → space ≡ object → wrapped space base ≡ base % selectors object
+unfolding wrapped
+wrapped-object space base h = rw (eq-eqb space object h)
+
+pub wrapped-other : (space base : ℕ) → (space ≡ object → ⊥) → wrapped space base ≡ base
+unfolding wrapped
+wrapped-other space base h = rw (ne-eqb space object h)
+
+pub wrapped-inside : (space base : ℕ) → base < selectors object → wrapped space base ≡ base
+unfolding wrapped
+wrapped-inside space base h = go (eqb space object)
+  where
+    go : (there : Bool) → cond there (base % selectors object) base ≡ base
+    go true = mod-eq-of-lt h
+    go false = refl
+
+-- what a word is read as
+
+pub reading-null : (word : ℕ) → typeField word ≡ 0 → reading word ≡ Null
+unfolding reading
+reading-null word h = rw (eq-eqb (typeField word) 0 h)
+
+module _ (word space mask order base : ℕ)
+    (t : typeField word ≡ typeOf space) (m : maskField word ≡ mask) (o : orderField word ≡ order) (b : baseField word ≡ base) where
+  pub reading-malformed : wellFormed space order base ≡ false → reading word ≡ Malformed
+  unfolding reading
+  reading-malformed h = rw (t, o, b, ne-eqb (typeOf space) 0 (omega arith), add-sub-cancel space 1, h)
+
+  pub reading-good : wellFormed space order base ≡ true → reading word ≡ Good (record { space = space; base = wrapped space base; order = order; mask = mask })
+  unfolding reading
+  reading-good h = rw (t, m, o, b, ne-eqb (typeOf space) 0 (omega arith), add-sub-cancel space 1, h)
+
+-- a word is read the same once a descriptor keeps it
+pub reading-kept : (word : ℕ) → reading (kept word) ≡ reading word
+reading-kept word = go (eqb (typeField word) 0) refl
+  where
+    go : (none : Bool) → eqb (typeField word) 0 ≡ none → reading (kept word) ≡ reading word
+    go true e = let h : typeField word ≡ 0 = eqb-true (typeField word) 0 e in rw (kept-null word h, reading-null null refl, reading-null word h)
+    go false e = rw (kept-word word (eqb-false (typeField word) 0 e))
+
+-- the rule that matches an item's range with its window
+
+pub matched-null : (window : Reading) → matched Null window ≡ Neither NullDescriptor
+unfolding matched
+matched-null Null = refl
+matched-null Malformed = refl
+matched-null (Good window) = refl
+
+module _ (item window : Range) where
+  pub matched-both : item .space ≡ window .space → matched (Good item) (Good window) ≡ Both item window
+  unfolding matched
+  matched-both h = rw (eq-eqb (item .space) (window .space) h)
+
+  pub matched-apart : (item .space ≡ window .space → ⊥) → matched (Good item) (Good window) ≡ Neither TypesDiffer
+  unfolding matched
+  matched-apart h = rw (ne-eqb (item .space) (window .space) h)
+
+-- what is matched are two ranges of one space
+pub matched-good : (first second : Reading) (item window : Range) → matched first second ≡ Both item window →
+    (first ≡ Good item) × (second ≡ Good window) × (item .space ≡ window .space)
+unfolding matched
+matched-good Null Null item window h = (cc, cc, cc)
+matched-good Null Malformed item window h = (cc, cc, cc)
+matched-good Null (Good b) item window h = (cc, cc, cc)
+matched-good Malformed Null item window h = (cc, cc, cc)
+matched-good Malformed Malformed item window h = (cc, cc, cc)
+matched-good Malformed (Good b) item window h = (cc, cc, cc)
+matched-good (Good a) Null item window h = (cc, cc, cc)
+matched-good (Good a) Malformed item window h = (cc, cc, cc)
+matched-good (Good a) (Good b) item window h = go (eqb (a .space) (b .space)) refl h
+  where
+    go : (same : Bool) → eqb (a .space) (b .space) ≡ same → cond same (Both a b) (Neither TypesDiffer) ≡ Both item window →
+        (Good a ≡ Good item) × (Good b ≡ Good window) × (item .space ≡ window .space)
+    go true e q = (cc, cc, cc (eqb-true (a .space) (b .space) e))
+    go false e q = (cc, cc, cc)
+
+-- which orders and bases are those of a range
+
+module _ (space order base : ℕ) (w : wellFormed space order base ≡ true) where
+  parts : (leb order (greatestOrder space) ≡ true) × (aligned order base ≡ true) × ((eqb space object || leb (base + 2 ^ order) (selectors space)) ≡ true)
+  unfolding wellFormed
+  parts =
+      let both = and-eq-true-iff (leb order (greatestOrder space) && aligned order base) (eqb space object || leb (base + 2 ^ order) (selectors space)) .0 w in
+      let first = and-eq-true-iff (leb order (greatestOrder space)) (aligned order base) .0 (both .0) in
+      (first .0, first .1, both .1)
+
+  order-small : order ≤ greatestOrder space
+  order-small = leb-true order (greatestOrder space) (parts .0)
+
+  -- the base as it is read is a multiple of the range's size, and the range ends in its space
+  inside : (there : Bool) → (there || leb (base + 2 ^ order) (selectors space)) ≡ true →
+      (2 ^ order ∣ cond there (base % selectors object) base) × (cond there (base % selectors object) base + 2 ^ order ≤ selectors space)
+  inside true h =
+      let whole : 2 ^ order ∣ selectors object = size-divides order (greatestOrder space) order-small in
+      let divides : 2 ^ order ∣ base % selectors object = dvd-mod-iff (2 ^ order) whole .1 (aligned-divides order base .0 (parts .1)) in
+      (divides, multiples-apart (2 ^ order) divides whole (omega arith))
+  inside false h = (aligned-divides order base .0 (parts .1), leb-true (base + 2 ^ order) (selectors space) h)
+
+  wrapped-aligned : aligned order (wrapped space base) ≡ true
+  unfolding wrapped
+  wrapped-aligned = aligned-divides order (wrapped space base) .1 (inside (eqb space object) (parts .2) .0)
+
+  wrapped-ends : wrapped space base + 2 ^ order ≤ selectors space
+  unfolding wrapped
+  wrapped-ends = inside (eqb space object) (parts .2) .1
+
+pub well-formed : (space order base : ℕ) → order ≤ greatestOrder space → aligned order base ≡ true → base + 2 ^ order ≤ selectors space →
+    wellFormed space order base ≡ true
+unfolding wellFormed
+well-formed space order base o a e =
+    rw (le-leb order (greatestOrder space) o, a, le-leb (base + 2 ^ order) (selectors space) e) (or-true (eqb space object))
+
+-- a range and its descriptor make each other
+
+pub range-back : (range : Range) → Proper range → reading (describe range) ≡ Good range
+range-back range p =
+    let some : 0 < 2 ^ range .order = pow-pos (range .order) in
+    let fields = fields-word (typeOf (range .space)) (range .mask) (range .order) (range .base) (omega arith) (omega arith) (omega arith) (omega arith) in
+    reading-good (describe range) (range .space) (range .mask) (range .order) (range .base) (fields .0) (fields .1) (fields .2) (fields .3)
+    (well-formed (range .space) (range .order) (range .base) (p .order-small) (p .base-aligned) (p .ends-inside))
+    ∙ rw (wrapped-inside (range .space) (range .base) (omega arith))
+
+pub good-proper : (word : ℕ) (range : Range) → reading word ≡ Good range → Proper range
+unfolding reading
+good-proper word range h = go (eqb (typeField word) 0) (wellFormed (typeField word - 1) (orderField word) (baseField word)) refl h
+  where
+    go : (none formed : Bool) → wellFormed (typeField word - 1) (orderField word) (baseField word) ≡ formed →
+        cond none Null (cond formed (Good (rangeOf (typeField word - 1) word)) Malformed) ≡ Good range → Proper range
+    go true formed w q = let never : _≡_ {A = ℕ} 0 1 = cc in absurd (omega arith)
+    go false false w q = let never : _≡_ {A = ℕ} 0 1 = cc in absurd (omega arith)
+    go false true w q =
+        let same : rangeOf (typeField word - 1) word ≡ range = cc in
+        subst Proper same
+        (record {
+          space-small = omega arith;
+          order-small = order-small (typeField word - 1) (orderField word) (baseField word) w;
+          base-aligned = wrapped-aligned (typeField word - 1) (orderField word) (baseField word) w;
+          ends-inside = wrapped-ends (typeField word - 1) (orderField word) (baseField word) w;
+          mask-small = omega arith;
+        })

@@ -1,0 +1,2 @@
+-- The laws of numbers and descriptors that the functions' proofs and the crates above cite.
+pub mod DescriptorLaws

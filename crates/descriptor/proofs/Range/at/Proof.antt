@@ -1,0 +1,13 @@
+-- The offset is below the size of the range, which ends in its space.
+use native.Mathlib.Omega.{arith}
+use Rattle.descriptor.proofs.Range.at.Statement.{statement}
+use Rattle.descriptor.proofs.Range.at.Tie as tie
+
+add-t3 : tie.Need-add-t3
+add-t3 c = omega arith
+
+returns : tie.Need-returns
+returns c = omega arith
+
+pub at-spec : {M : Type 1} → statement M
+at-spec = tie.close (tie.spec add-t3 returns)

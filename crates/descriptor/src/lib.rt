@@ -1,0 +1,351 @@
+// The types of the interface: selector, place and object number, the range descriptor, and the reply.
+//
+// Selector, place and object number are a one-number struct each, so that none is taken for another: their numbers are private to this crate, and its
+// conversions are the only way across.
+ghost use mathlib.Core.Path.{_≡_};
+ghost use Prim.Native.Nat.{_+_, _^_, _%_, _<_, _≤_};
+ghost use Rattle.words.specs.Sizes.{domains, spaces, object, selectors, places, records, placeOf, domainOf, spaceOf, selectorOf};
+ghost use Rattle.descriptor.specs.Numbers.{placed, numbered};
+ghost use Rattle.descriptor.specs.Descriptors.{kept, describe, reading, matched, wellFormed, Proper};
+ghost use Rattle.descriptor.specs.Replies.{statusOf, answerOf};
+use words::ranges;
+use words::sizes;
+
+pub mod theorems;
+
+pub struct Selector(u32);
+
+pub struct Place(u32);
+
+pub struct ObjectNumber(u32);
+
+// A place, if a word is the number of one.
+pub enum FoundPlace {
+    At(Place),
+    Nowhere,
+}
+
+// An object number, if a word is one.
+pub enum FoundObject {
+    Numbered(ObjectNumber),
+    Beyond,
+}
+
+impl Selector {
+    // The object selector that a word names: object selectors wrap.
+    pub fn wrapped(word: u32) -> Selector
+        ensures { λ r. ⌜ r .0 ≡ word % selectors object ⌝ }
+    {
+        Selector(word % sizes::SELECTORS)
+    }
+
+    pub fn number(self) -> u32
+        ensures { λ r. ⌜ r ≡ self .0 ⌝ }
+    {
+        self.0
+    }
+}
+
+impl Place {
+    // The place of a number that is below the number of places.
+    pub fn nth(number: u32) -> Place
+        requires { ⌜ number < places ⌝ }
+        ensures { λ r. ⌜ r .0 ≡ number ⌝ }
+    {
+        Place(number)
+    }
+
+    // The place of a selector in a space of a domain.
+    pub fn of(domain: u32, space: u32, selector: Selector) -> Place
+        requires { ⌜ (domain < domains) × (space < spaces) × (selector .0 < selectors space) ⌝ }
+        ensures { λ r. ⌜ r .0 ≡ placeOf domain space (selector .0) ⌝ }
+    {
+        Place(domain * sizes::STRIDE + sizes::space_start(space) + selector.0)
+    }
+
+    // The place of a word's number, if there is one.
+    pub fn found(word: u32) -> FoundPlace
+        ensures { λ r. ⌜ r ≡ placed word ⌝ }
+    {
+        if word < sizes::PLACES {
+            FoundPlace::At(Place(word))
+        } else {
+            FoundPlace::Nowhere
+        }
+    }
+
+    pub fn number(self) -> u32
+        ensures { λ r. ⌜ r ≡ self .0 ⌝ }
+    {
+        self.0
+    }
+
+    pub fn domain(self) -> u32
+        ensures { λ r. ⌜ r ≡ domainOf (self .0) ⌝ }
+    {
+        self.0 / sizes::STRIDE
+    }
+
+    pub fn space(self) -> u32
+        ensures { λ r. ⌜ r ≡ spaceOf (self .0) ⌝ }
+    {
+        let at = self.0 % sizes::STRIDE;
+        if at < sizes::IO_START {
+            return sizes::MEMORY;
+        }
+        if at < sizes::OBJECT_START {
+            return sizes::IO;
+        }
+        sizes::OBJECT
+    }
+
+    pub fn selector(self) -> Selector
+        ensures { λ r. ⌜ r .0 ≡ selectorOf (self .0) ⌝ }
+    {
+        Selector(self.0 % sizes::STRIDE - sizes::space_start(self.space()))
+    }
+}
+
+impl ObjectNumber {
+    // The object of a number that is below the number of records.
+    pub fn nth(number: u32) -> ObjectNumber
+        requires { ⌜ number < records ⌝ }
+        ensures { λ r. ⌜ r .0 ≡ number ⌝ }
+    {
+        ObjectNumber(number)
+    }
+
+    // The object number that a word is, if it is one.
+    pub fn found(word: u32) -> FoundObject
+        ensures { λ r. ⌜ r ≡ numbered word ⌝ }
+    {
+        if word < sizes::RECORDS {
+            FoundObject::Numbered(ObjectNumber(word))
+        } else {
+            FoundObject::Beyond
+        }
+    }
+
+    pub fn number(self) -> u32
+        ensures { λ r. ⌜ r ≡ self .0 ⌝ }
+    {
+        self.0
+    }
+}
+
+// A range of selectors of a space, and a mask.
+pub struct Range {
+    space: u32,
+    base: u32,
+    order: u32,
+    mask: u32,
+}
+
+impl Range {
+    pub fn space(self) -> u32
+        ensures { λ r. ⌜ r ≡ self .space ⌝ }
+    {
+        self.space
+    }
+
+    pub fn order(self) -> u32
+        ensures { λ r. ⌜ r ≡ self .order ⌝ }
+    {
+        self.order
+    }
+
+    pub fn mask(self) -> u32
+        ensures { λ r. ⌜ r ≡ self .mask ⌝ }
+    {
+        self.mask
+    }
+
+    // The selector at an offset of the range.
+    pub fn at(self, offset: u32) -> Selector
+        requires { ⌜ Proper self × (offset < 2 ^ self .order) ⌝ }
+        ensures { λ r. ⌜ (r .0 ≡ self .base + offset) × (r .0 < selectors (self .space)) ⌝ }
+    {
+        Selector(self.base + offset)
+    }
+}
+
+// A capability as a place holds it: the resource's number, the permissions, the parent place plus 1 (0: none), and the depth.
+pub struct Cap {
+    pub resource: u32,
+    pub permissions: u32,
+    pub parent: u32,
+    pub depth: u32,
+}
+
+// Which rule of damage is the first that tables break, and the lowest record or place that breaks it.
+pub enum Fault {
+    NoFault,
+    Lengths,
+    AtRecord(u32, u32),
+    AtPlace(u32, u32),
+}
+
+// What a descriptor says: nothing, no range, or a range.
+pub enum Reading {
+    Null,
+    Malformed,
+    Good(Range),
+}
+
+// Why a typed item is received as null.
+pub enum Reason {
+    NullDescriptor,
+    MalformedDescriptor,
+    TypesDiffer,
+    NothingFilled,
+    TranslationBroke,
+}
+
+// An item's range and its window, or why the item is null.
+pub enum Match {
+    Both(Range, Range),
+    Neither(Reason),
+}
+
+impl Reading {
+    // The rule that matches an item's range with its window.
+    pub fn matching(self, window: Reading) -> Match
+        ensures { λ r. ⌜ r ≡ matched self window ⌝ }
+    {
+        match self {
+            Reading::Null => Match::Neither(Reason::NullDescriptor),
+            Reading::Malformed => match window {
+                Reading::Null => Match::Neither(Reason::NullDescriptor),
+                Reading::Malformed => Match::Neither(Reason::MalformedDescriptor),
+                Reading::Good(_) => Match::Neither(Reason::MalformedDescriptor),
+            },
+            Reading::Good(item) => match window {
+                Reading::Null => Match::Neither(Reason::NullDescriptor),
+                Reading::Malformed => Match::Neither(Reason::MalformedDescriptor),
+                Reading::Good(other) => {
+                    if item.space == other.space {
+                        Match::Both(item, other)
+                    } else {
+                        Match::Neither(Reason::TypesDiffer)
+                    }
+                }
+            },
+        }
+    }
+}
+
+// Whether an order and a base are those of a range of a space.
+fn is_range(space: u32, order: u32, base: u32) -> bool
+    requires { ⌜ (order < 32) × (base < 2 ^ 20) ⌝ }
+    ensures { λ r. ⌜ r ≡ wellFormed space order base ⌝ }
+{
+    (order <= sizes::GREATEST_ORDER)
+        & ranges::is_aligned(order, base)
+        & ((space == sizes::OBJECT) | (base + ranges::size(order) <= sizes::SELECTORS))
+}
+
+// A range descriptor, as its word. Every word of type 0 is the null descriptor.
+pub struct Descriptor(u32);
+
+impl Descriptor {
+    pub const NULL: Descriptor = Descriptor(0);
+
+    pub fn from_word(word: u32) -> Descriptor
+        ensures { λ r. ⌜ r .0 ≡ kept word ⌝ }
+    {
+        if word % 4 == 0 {
+            return Descriptor::NULL;
+        }
+        Descriptor(word)
+    }
+
+    // The descriptor of a range, from the space, base, order and mask.
+    pub fn of(space: u32, base: Selector, order: u32, mask: u32) -> Descriptor
+        requires { ⌜ Proper (record { space = space; base = base .0; order = order; mask = mask }) ⌝ }
+        ensures { λ r. ⌜ r .0 ≡ describe (record { space = space; base = base .0; order = order; mask = mask }) ⌝ }
+    {
+        Descriptor(space + 1 + mask * 4 + order * 128 + base.0 * 4096)
+    }
+
+    pub fn word(self) -> u32
+        ensures { λ r. ⌜ r ≡ self .0 ⌝ }
+    {
+        self.0
+    }
+
+    // What the descriptor says.
+    pub fn read(self) -> Reading
+        ensures { λ r. ⌜ r ≡ reading (self .0) ⌝ }
+    {
+        let word = self.0;
+        if word % 4 == 0 {
+            return Reading::Null;
+        }
+        let space = word % 4 - 1;
+        let mask = (word >> 2) % 32;
+        let order = (word >> 7) % 32;
+        let base = word >> 12;
+        if !is_range(space, order, base) {
+            return Reading::Malformed;
+        }
+        if space == sizes::OBJECT {
+            return Reading::Good(Range {
+                space,
+                base: base % sizes::SELECTORS,
+                order,
+                mask,
+            });
+        }
+        Reading::Good(Range {
+            space,
+            base,
+            order,
+            mask,
+        })
+    }
+}
+
+// The answer of a hypercall or a census, with a value only where its status has one.
+pub enum Reply {
+    Success(u32),
+    ComTim,
+    BadHyp,
+    BadCap,
+    BadPar,
+    BadCpu,
+    NoRoom,
+    Damaged,
+    BadCaller,
+    Short(u32),
+}
+
+impl Reply {
+    // The number of the status.
+    pub fn status(self) -> u32
+        ensures { λ r. ⌜ r ≡ statusOf self ⌝ }
+    {
+        match self {
+            Reply::Success(_) => 0,
+            Reply::ComTim => 1,
+            Reply::BadHyp => 3,
+            Reply::BadCap => 4,
+            Reply::BadPar => 5,
+            Reply::BadCpu => 7,
+            Reply::NoRoom => 16,
+            Reply::Damaged => 17,
+            Reply::BadCaller => 18,
+            Reply::Short(_) => 19,
+        }
+    }
+
+    // The answer: 0 where the status has none.
+    pub fn answer(self) -> u32
+        ensures { λ r. ⌜ r ≡ answerOf self ⌝ }
+    {
+        match self {
+            Reply::Success(answer) => answer,
+            Reply::Short(needed) => needed,
+            _ => 0,
+        }
+    }
+}
