@@ -1,0 +1,44 @@
+-- Demand 3, over any events: the history follows the tables from boot on.
+use mathlib.Core.Path.{_≡_, sym, ap, _∙_, subst}
+use mathlib.Core.List.{List, [], _∷_}
+use Rattle.descriptor.proofs.DescriptorLaws.{range-back}
+use Rattle.interface.specs.Places.{State, Tables, tablesOf}
+use Rattle.interface.specs.Boot.{boot}
+use Rattle.interface.specs.Verdicts.{Call, effectsOf}
+use Rattle.interface.specs.Rules.{rules, after, hypercallTables}
+use Rattle.interface.specs.History.{History, Event, hypercalls, counts, told, tell, toldAll, bootHistory}
+use Rattle.interface.specs.Demand.{tablesAfter, tablesAfterAll, LentOut, Demand3}
+use Rattle.interface.proofs.Soundness.{Sound, sound-facts}
+use Rattle.interface.proofs.RulesFit.{rules-fit}
+use Rattle.interface.proofs.HistoryLaws.{Valid}
+use Rattle.interface.proofs.NoteLaws.{Follows}
+use Rattle.interface.proofs.Sequences.{run-sound, notes-follow}
+use Rattle.interface.proofs.BootLaws.{boot-sound, boot-follows}
+use Rattle.interface.proofs.LentOutLaws.{tables-shown, lent-out}
+
+-- a call leaves a sound state sound
+pub after-sound : (s : State) (c : Call) → Sound s → Sound (after s c)
+unfolding after
+after-sound s c sound = run-sound (effectsOf (rules s c)) s sound (rules-fit s c)
+
+-- the history follows a call
+tell-follows : (h : History) (c : Call) → Valid h → Sound (told h) → Follows (tell h (hypercalls c)) (after (told h) c)
+unfolding tell after
+tell-follows h c valid sound = notes-follow (effectsOf (rules (told h) c)) h valid sound (rules-fit (told h) c)
+
+from-here : (events : List Event) (tables : Tables) (h : History) → tables ≡ tablesOf (told h) → Valid h → Sound (told h) →
+    LentOut (tablesAfterAll tables events) (toldAll h events)
+unfolding tablesAfterAll tablesAfter toldAll tell
+from-here [] tables h e valid sound = subst (λ (t : Tables). LentOut t h) (sym e) (lent-out h valid sound range-back)
+from-here (hypercalls c ∷ events) tables h e valid sound =
+    let follows = tell-follows h c valid sound in
+    from-here events (hypercallTables tables c) (tell h (hypercalls c))
+    (ap (λ (t : Tables). hypercallTables t c) e ∙ tables-shown h valid c ∙ ap tablesOf (sym (follows .0)))
+    (follows .1)
+    (subst Sound (sym (follows .0)) (after-sound (told h) c sound))
+from-here (counts place list ∷ events) tables h e valid sound = from-here events tables (tell h (counts place list)) e valid sound
+
+pub demand-3 : Demand3
+demand-3 events =
+    from-here events (tablesOf boot) bootHistory (ap tablesOf (sym (boot-follows .0))) (boot-follows .1)
+    (subst Sound (sym (boot-follows .0)) (sound-facts boot boot-sound))

@@ -1,0 +1,117 @@
+-- What else follows from the rules: each statement under one sentence.
+use Prim.Native.Nat.{ℕ, _+_, _^_, _≤_, _<_}
+use mathlib.Core.Path.{_≡_}
+use mathlib.Core.Logic.{_↔_, _⊎_}
+use mathlib.Core.Bool.{Bool, true, false, not, _||_, _&&_}
+use mathlib.Core.List.{List, _∷_}
+use lib.Dec.{eqb}
+use Rattle.words.specs.Sizes.{placeOf, domainOf, greatestOrder}
+use Rattle.words.specs.Permissions.{within}
+use Rattle.words.specs.Ranges.{rounded}
+use Rattle.descriptor.specs.Replies.{statusOf}
+use Rattle.descriptor.specs.declared.Range.{Range}
+use Rattle.descriptor.specs.declared.Reading.{Reading}
+use Rattle.descriptor.specs.declared.Reading.the-variants.{Null, Malformed, Good}
+use Rattle.descriptor.specs.declared.Reply.the-variants.{Damaged}
+use Rattle.interface.specs.Basics.{if_then_else_}
+use Rattle.interface.specs.Places.{State, Tables, live, tablesOf}
+use Rattle.interface.specs.Boot.{boot, hypervisor, root}
+use Rattle.interface.specs.Damage.{sound}
+use Rattle.interface.specs.Descriptors.{describe, reading}
+use Rattle.interface.specs.Effects.{Effect, give, among, below, stripped}
+use Rattle.interface.specs.Verdicts.{Call, CALL, REVOKE, LOOKUP, callerDomain, grant, effectsOf}
+use Rattle.interface.specs.Lookup.{uniform, spaceCaps}
+use Rattle.interface.specs.Rules.{rules, after, hypercallReply, hypercallBlock, hypercallTables}
+use Rattle.interface.specs.Census.{census}
+use Rattle.interface.specs.History.{Event}
+use Rattle.interface.specs.Demand.{tablesAfter, tablesAfterAll}
+
+-- Every event on sound tables leaves sound tables, whatever sound tables they are
+abbrev pub StaysSound : Type 0
+StaysSound = (tables : Tables) (event : Event) → sound tables ≡ true → sound (tablesAfter tables event) ≡ true
+
+-- A call or a census answers DAMAGED exactly where the tables are not sound; so after any events from boot none does
+pub record DamagedExactly : Type 0 where
+  pub hypercall-damaged : (tables : Tables) (c : Call) → (hypercallReply tables c ≡ Damaged) ↔ (sound tables ≡ false)
+  pub census-damaged : (tables : Tables) (place : ℕ) (list : List ℕ) → (census tables place list .reply ≡ Damaged) ↔ (sound tables ≡ false)
+  pub never-from-boot : (events : List Event) → sound (tablesAfterAll (tablesOf boot) events) ≡ true
+
+-- A refused event changes no word of tables, block or list
+pub record RefusedStays : Type 0 where
+  pub hypercall-stays : (tables : Tables) (c : Call) → (statusOf (hypercallReply tables c) ≡ 0 → ⊥) →
+      (hypercallTables tables c ≡ tables) × (hypercallBlock tables c ≡ c .target)
+  pub census-stays : (tables : Tables) (place : ℕ) (list : List ℕ) → (statusOf (census tables place list .reply) ≡ 0 → ⊥) →
+      census tables place list .list ≡ list
+
+-- whether a descriptor names nothing: it is null, or the place of its base is
+abbrev pub namesNothing : State → ℕ → Reading → Bool
+namesNothing s domain Null = true
+namesNothing s domain Malformed = false
+namesNothing s domain (Good range) = not (live (s .caps (placeOf domain (range .space) (range .base))))
+
+-- the order of the range that LOOKUP answers: its places are all live, with equal permissions and resources rising by one, and no larger aligned range around the base would do
+pub record LargestOrder (s : State) (domain : ℕ) (range : Range) (order : ℕ) : Type 0 where
+  pub order-small : order ≤ greatestOrder (range .space)
+  pub all-live : (i : ℕ) → i < 2 ^ order →
+      let base = rounded order (range .base) in
+      let cap = spaceCaps s domain (range .space) in
+      (live (cap (base + i)) ≡ true) × (cap (base + i) .permissions ≡ cap (range .base) .permissions) × (cap (base + i) .resource ≡ cap base .resource + i)
+  pub no-larger : (larger : ℕ) → order < larger → larger ≤ greatestOrder (range .space) →
+      uniform (spaceCaps s domain (range .space)) (range .base) larger ≡ false
+
+-- A selector that holds nothing is reported as nothing: a LOOKUP that is not refused answers 0 exactly when its descriptor names nothing, and otherwise the largest range
+abbrev pub NothingIsNothing : Type 0
+NothingIsNothing =
+    (s : State) (c : Call) (answer : ℕ) (effects : List Effect) (block : List ℕ) → c .number ≡ LOOKUP → rules s c ≡ grant answer effects block →
+    ((answer ≡ 0) ↔ (namesNothing s (callerDomain s c) (reading (c .first)) ≡ true)) ×
+    ((range : Range) → reading (c .first) ≡ Good range → namesNothing s (callerDomain s c) (Good range) ≡ false →
+    (order : ℕ) × LargestOrder s (callerDomain s c) range order ×
+    (answer ≡
+    describe
+    (record {
+      space = range .space;
+      base = rounded order (range .base);
+      order = order;
+      mask = s .caps (placeOf (callerDomain s c) (range .space) (range .base)) .permissions;
+    })))
+
+-- a step of a list that delegates to a place
+pub data Delegates (destination source mask : ℕ) : List Effect → Type 0 where
+  this-one : {effects : List Effect} → Delegates destination source mask (give destination source mask ∷ effects)
+  later-one : {effect : Effect} {effects : List Effect} → Delegates destination source mask effects → Delegates destination source mask (effect ∷ effects)
+
+-- what a call that fills a place by delegation gives it: the resource of a live source, which is its parent, and permissions within the source's and within the mask
+pub record GivenFrom (after : State) (place source mask : ℕ) : Type 0 where
+  pub source-live : live (after .caps source) ≡ true
+  pub same-resource : after .caps place .resource ≡ after .caps source .resource
+  pub is-child : after .caps place .parent ≡ source + 1
+  pub within-source : within (after .caps place .permissions) (after .caps source .permissions) ≡ true
+  pub within-mask : within (after .caps place .permissions) mask ≡ true
+  pub deeper : after .caps place .depth ≡ after .caps source .depth + 1
+
+-- whose place a caller may delegate from: one of its own domain, or one of domain 0 where the caller is the root
+abbrev pub OwnSource : ℕ → ℕ → Type 0
+OwnSource domain source = (domainOf source ≡ domain) ⊎ ((domain ≡ root) × (domainOf source ≡ hypervisor))
+
+-- Delegation adds no permission: CALL overwrites no live place, and each place that it fills is delegated to by one of its steps and has permissions within its source's and
+-- within the step's mask; the source is the caller's, or domain 0's where the caller is the root
+abbrev pub AddsNoPermission : Type 0
+AddsNoPermission =
+    (s : State) (c : Call) → c .number ≡ CALL → (place : ℕ) →
+    (live (s .caps place) ≡ true → after s c .caps place ≡ s .caps place) ×
+    (live (s .caps place) ≡ false → live (after s c .caps place) ≡ true →
+    (source : ℕ) × (mask : ℕ) × Delegates place source mask (effectsOf (rules s c)) × OwnSource (callerDomain s c) source ×
+    GivenFrom (after s c) place source mask)
+
+-- Revocation is exact: after a REVOKE that is not refused a place has its old permissions without the mask if it is a strict descendant of a place in the range, or in the range
+-- with self 1, and its old ones otherwise; nothing else of it moves, except that a place left with none is null; and no object moves
+abbrev pub RevokesExactly : Type 0
+RevokesExactly =
+    (s : State) (c : Call) (answer : ℕ) (effects : List Effect) (block : List ℕ) → c .number ≡ REVOKE → rules s c ≡ grant answer effects block →
+    (after s c .objects ≡ s .objects) ×
+    (reading (c .first) ≡ Null → after s c ≡ s) ×
+    ((range : Range) → reading (c .first) ≡ Good range → (place : ℕ) →
+    let first = placeOf (callerDomain s c) (range .space) (range .base) in
+    let size = 2 ^ range .order in
+    after s c .caps place ≡
+    (if below (s .caps) first size place || (eqb (c .second) 1 && among first size place) then stripped (range .mask) (s .caps place) else s .caps place))

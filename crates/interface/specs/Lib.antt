@@ -1,0 +1,21 @@
+-- The interface as definitions, in the order of its manual (docs/INTERFACE.md): what to read to know what every promise of this repository says.
+pub mod Basics
+pub mod Places
+pub mod Boot
+pub mod Damage
+pub mod Descriptors
+pub mod Effects
+pub mod Verdicts
+pub mod Creations
+pub mod Revoke
+pub mod Lookup
+pub mod Semaphores
+pub mod Message
+pub mod PortalCalls
+pub mod Rules
+pub mod Census
+pub mod History
+pub mod Demand
+pub mod Consequences
+pub mod Journal
+pub mod Examples

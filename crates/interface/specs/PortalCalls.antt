@@ -1,0 +1,23 @@
+-- CALL.
+use mathlib.Core.Bool.{not, _&&_}
+use lib.Dec.{eqb}
+use lib.ListN.{length}
+use Rattle.words.specs.Sizes.{blockWords}
+use Rattle.descriptor.specs.declared.Reply.the-variants.{ComTim, BadCap, BadPar, BadCpu}
+use Rattle.interface.specs.Basics.{word}
+use Rattle.interface.specs.Places.{State, PT, ecWord, domainWord, cpuWord, callBit, objectPlace, permitted, objectIn}
+use Rattle.interface.specs.Verdicts.{Call, Verdict, grant, require_else_then_, callerDomain}
+use Rattle.interface.specs.Message.{payloadFits, transfer}
+
+-- CALL: portal selector, the caller's message block and the callee's. The callee is the portal's EC, and the answer counts the places filled
+unfoldable pub portalCall : State → Call → Verdict
+portalCall s c =
+    let portal = objectPlace (callerDomain s c) (c .first) in
+    let callee = s .objects (objectIn s portal) ecWord in
+    let moved = transfer s (callerDomain s c) (s .objects callee domainWord) (c .source) (c .target) in
+    require eqb (length (c .source)) blockWords && eqb (length (c .target)) blockWords else BadPar then
+    require permitted s portal PT callBit else BadCap then
+    require not (eqb callee (c .caller)) else ComTim then
+    require eqb (s .objects callee cpuWord) (s .objects (c .caller) cpuWord) else BadCpu then
+    require payloadFits (word (c .source) 0) else BadPar then
+    grant (moved .filled) (moved .effects) (moved .block)

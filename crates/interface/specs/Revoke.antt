@@ -1,0 +1,26 @@
+-- REVOKE.
+use Prim.Native.Nat.{ℕ, _^_}
+use mathlib.Core.Bool.{Bool, not}
+use mathlib.Core.List.{List, [], _∷_}
+use lib.Dec.{eqb, leb}
+use Rattle.words.specs.Sizes.{placeOf}
+use Rattle.descriptor.specs.declared.Reading.{Reading}
+use Rattle.descriptor.specs.declared.Reading.the-variants.{Null, Malformed, Good}
+use Rattle.descriptor.specs.declared.Reply.the-variants.{BadPar}
+use Rattle.interface.specs.Places.{State}
+use Rattle.interface.specs.Descriptors.{reading, malformed}
+use Rattle.interface.specs.Effects.{Effect, cut}
+use Rattle.interface.specs.Verdicts.{Call, Verdict, grant, require_else_then_, callerDomain}
+
+-- the steps of a descriptor's revocation in a domain: a null descriptor's are none
+abbrev pub cuts : ℕ → Bool → Reading → List Effect
+cuts domain self Null = []
+cuts domain self Malformed = []
+cuts domain self (Good range) = cut (range .mask) (placeOf domain (range .space) (range .base)) (2 ^ range .order) self ∷ []
+
+-- REVOKE: descriptor, self word. The mask's permissions are removed from every strict descendant of a place in the range, and with self 1 from the range
+unfoldable pub revoke : State → Call → Verdict
+revoke s c =
+    require leb (c .second) 1 else BadPar then
+    require not (malformed (reading (c .first))) else BadPar then
+    grant 0 (cuts (callerDomain s c) (eqb (c .second) 1) (reading (c .first))) (c .target)
