@@ -142,6 +142,17 @@ pub struct Range {
 }
 
 impl Range {
+    pub fn of(space: u32, base: Selector, order: u32, mask: u32) -> Range
+        ensures { λ r. ⌜ r ≡ record { space = space; base = base .0; order = order; mask = mask } ⌝ }
+    {
+        Range {
+            space,
+            base: base.0,
+            order,
+            mask,
+        }
+    }
+
     pub fn space(self) -> u32
         ensures { λ r. ⌜ r ≡ self .space ⌝ }
     {
@@ -205,6 +216,12 @@ pub enum Reason {
 pub enum Match {
     Both(Range, Range),
     Neither(Reason),
+}
+
+// What the receiver of a typed item is shown: nothing, for a reason, or a range.
+pub enum Received {
+    NullItem(Reason),
+    Shows(Range),
 }
 
 impl Reading {

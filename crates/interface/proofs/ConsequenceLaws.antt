@@ -78,7 +78,7 @@ module _ (tables : Tables) (fit : sized tables ≡ true) where
   past-objects : (i : ℕ) → objectTableWords ≤ i → word (tables .objects) i ≡ 0
   past-objects i g = List·getD-eq-default (tables .objects) 0 (omega (arith, objects-long))
 
-  shown-ends : Ends (shown tables)
+  pub shown-ends : Ends (shown tables)
   unfolding capAt objectAt
   shown-ends =
       record {
@@ -112,7 +112,7 @@ module _ (tables : Tables) (fit : sized tables ≡ true) where
       let e : recordWords * (i / recordWords) + i % recordWords ≡ i = omega arith in
       record-word (tables .objects) (i / recordWords) (i % recordWords) (omega arith) ∙ ap (word (tables .objects)) e)
 
-  tables-back : tablesOf (shown tables) ≡ tables
+  pub tables-back : tablesOf (shown tables) ≡ tables
   tables-back = λ i. record { places = places-back i; objects = objects-back i }
 
 -- a state with one place or one record changed inside the tables ends where it did
@@ -229,16 +229,16 @@ one-choice true b x y = refl
 one-choice false b x y = refl
 
 -- a call and a census ask first whether the tables are sound
-judged-once : (tables : Tables) (c : Call) → judged tables c ≡ (require sound tables else Damaged then called (shown tables) c (hypercall (c .number)))
+pub judged-once : (tables : Tables) (c : Call) → judged tables c ≡ (require sound tables else Damaged then called (shown tables) c (hypercall (c .number)))
 unfolding judged rules sound
 judged-once tables c =
     one-choice (sized tables) (soundState (shown tables)) (called (shown tables) c (hypercall (c .number))) (refuse Damaged)
 
 -- a census of damaged tables
-abbrev damagedCensus : List ℕ → CensusResult
+abbrev pub damagedCensus : List ℕ → CensusResult
 damagedCensus list = record { reply = Damaged; list = list }
 
-census-once : (tables : Tables) (place : ℕ) (list : List ℕ) →
+pub census-once : (tables : Tables) (place : ℕ) (list : List ℕ) →
     census tables place list ≡ (if sound tables then counted (shown tables) place list else damagedCensus list)
 unfolding census censusOf sound
 census-once tables place list = one-choice (sized tables) (soundState (shown tables)) (counted (shown tables) place list) (damagedCensus list)
@@ -284,7 +284,7 @@ damaged-exactly =
     }
 
 -- a verdict that does not succeed takes no steps and leaves the callee's block
-refused-nothing : (target : List ℕ) (v : Verdict) → (statusOf (replyOf v) ≡ 0 → ⊥) → (effectsOf v ≡ []) × (blockOf target v ≡ target)
+pub refused-nothing : (target : List ℕ) (v : Verdict) → (statusOf (replyOf v) ≡ 0 → ⊥) → (effectsOf v ≡ []) × (blockOf target v ≡ target)
 refused-nothing target (refuse reply) n = (refl, refl)
 refused-nothing target (grant answer effects block) n = absurd (n refl)
 

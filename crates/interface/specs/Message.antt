@@ -11,7 +11,8 @@ use Rattle.words.specs.Ranges.{aligned, raised}
 use Rattle.descriptor.specs.declared.Range.{Range}
 use Rattle.descriptor.specs.declared.Match.{Match}
 use Rattle.descriptor.specs.declared.Match.the-variants.{Both, Neither}
-use Rattle.descriptor.specs.declared.Reason.{Reason}
+use Rattle.descriptor.specs.declared.Received.{Received}
+use Rattle.descriptor.specs.declared.Received.the-variants.{NullItem, Shows}
 use Rattle.descriptor.specs.declared.Reason.the-variants.{NothingFilled, TranslationBroke}
 use Rattle.interface.specs.Basics.{if_then_else_, word, listed, allBelow}
 use Rattle.interface.specs.Places.{Cap, State}
@@ -70,15 +71,10 @@ hypervisorBit second = bits 11 11 second
 abbrev pub hotspotField : ℕ → ℕ
 hotspotField second = bits 12 31 second
 
--- what the receiver is shown of an item: nothing, for a reason, or a range
-pub data Received : Type 0 where
-  nullItem : Reason → Received
-  shows : Range → Received
-
--- the descriptor that the receiver is given
+-- the descriptor that the receiver is given: what it is shown of an item is nothing, for a reason, or a range
 abbrev pub receivedWord : Received → ℕ
-receivedWord (nullItem reason) = null
-receivedWord (shows range) = describe range
+receivedWord (NullItem reason) = null
+receivedWord (Shows range) = describe range
 
 -- an item's outcome: what the receiver is shown, and the delegations it asks for
 pub record Item : Type 0 where
@@ -108,14 +104,14 @@ delegations from to hotspot item window =
 
 -- where nothing is filled the item is null; otherwise it shows the destination with the item's mask
 unfoldable pub delegateItem : State → ℕ → ℕ → ℕ → Match → Item
-delegateItem s sender receiver second (Neither reason) = record { received = nullItem reason; effects = [] }
+delegateItem s sender receiver second (Neither reason) = record { received = NullItem reason; effects = [] }
 delegateItem s sender receiver second (Both item window) =
     let o = smallerOrder item window in
     let effects = delegations (sourceDomain sender second) receiver (hotspotField second) item window in
     record {
       received =
-          if eqb (filled effects s) 0 then nullItem NothingFilled
-          else shows (record { space = item .space; base = raisedBase window o (hotspotField second); order = o; mask = item .mask });
+          if eqb (filled effects s) 0 then NullItem NothingFilled
+          else Shows (record { space = item .space; base = raisedBase window o (hotspotField second); order = o; mask = item .mask });
       effects = effects;
     }
 
@@ -159,19 +155,19 @@ translates caps sender receiver item window =
 
 -- the item then shows R, the sender's order, and the bits of the mask that every sender permission has; otherwise it is null
 unfoldable pub translateItem : State → ℕ → ℕ → Match → Item
-translateItem s sender receiver (Neither reason) = record { received = nullItem reason; effects = [] }
+translateItem s sender receiver (Neither reason) = record { received = NullItem reason; effects = [] }
 translateItem s sender receiver (Both item window) =
     record {
       received =
           if translates (s .caps) sender receiver item window then
-          shows
+          Shows
           (record {
             space = item .space;
             base = translatedBase (s .caps) sender receiver item;
             order = item .order;
             mask = common (item .mask) (2 ^ item .order) (λ i. s .caps (senderPlace sender item i));
           })
-          else nullItem TranslationBroke;
+          else NullItem TranslationBroke;
       effects = [];
     }
 

@@ -1,5 +1,6 @@
 -- The rules of every hypercall, on what the tables show and on the tables themselves.
 use Prim.Native.Nat.{ℕ}
+use mathlib.Core.Path.{_≡_}
 use mathlib.Core.List.{List}
 use lib.Dec.{eqb}
 use Rattle.descriptor.specs.declared.Reply.{Reply}
@@ -67,3 +68,8 @@ bootReply tables = if sized tables then Success 0 else Damaged
 
 unfoldable pub bootTables : Tables → Tables
 bootTables tables = if sized tables then tablesOf boot else tables
+
+-- what code that runs a call's rule promises: the reply is the verdict's, and the tables are those that its steps leave
+pub record Runs (verdict : State → Call → Verdict) (c : Call) (before after : Tables) (reply : Reply) : Type 0 where
+  pub replies : reply ≡ replyOf (verdict (shown before) c)
+  pub leaves : after ≡ tablesOf (run (effectsOf (verdict (shown before) c)) (shown before))

@@ -1,0 +1,2 @@
+-- What boot promises.
+pub mod Booted

@@ -1,0 +1,82 @@
+-- What a call's function knows of its tables and caller, and what makes it run its rule: a refusal leaves the tables, a grant leaves those of its steps.
+use Prim.Native.Nat.{ℕ, _<_}
+use mathlib.Core.Path.{_≡_}
+use mathlib.Core.Bool.{true}
+use mathlib.Core.List.{List}
+use lib.Dec.{eqb}
+use lib.ListN.{length}
+use borrow.Author.Tests.{eqb-true}
+use Rattle.words.specs.Sizes.{domains, records}
+use Rattle.descriptor.specs.declared.Reply.{Reply}
+use Rattle.descriptor.specs.declared.Reply.the-variants.{Success}
+use Rattle.interface.specs.Places.{Cap, State, domainWord, objectPlace, permitted, placeTableWords, objectTableWords, sized, capAt, objectAt, placeTable, objectTable}
+use Rattle.interface.specs.Damage.{soundState, sound}
+use Rattle.interface.specs.Effects.{Effect, run}
+use Rattle.interface.specs.Verdicts.{Call, Verdict, refuse, grant}
+use Rattle.interface.specs.Rules.{Runs}
+use Rattle.interface.proofs.BoolLaws.{and-left, and-right}
+use Rattle.interface.proofs.Soundness.{Sound, sound-facts}
+use Rattle.interface.proofs.SoundFacts.{ec-small, home, ec-home, own-record}
+use Rattle.places.specs.Table.{Sized as SizedPlaces}
+use Rattle.places.proofs.CapTableLaws.{cap-table-back}
+use Rattle.objects.specs.Records.{Sized as SizedObjects}
+use Rattle.objects.proofs.RecordTableLaws.{record-table-back}
+use Rattle.capabilities.specs.Callers.{tables, view, Called}
+
+module _ {places objects : List ℕ} {caller : ℕ} (called : Called places objects caller) where
+  -- the tables have their lengths
+  lengths : sized (tables places objects) ≡ true
+  unfolding sound
+  lengths = and-left (sized (tables places objects)) (soundState (view places objects)) (called .is-sound)
+
+  pub sized-places : SizedPlaces places
+  unfolding sized
+  sized-places =
+      eqb-true (length places) placeTableWords (and-left (eqb (length places) placeTableWords) (eqb (length objects) objectTableWords) lengths)
+
+  pub sized-objects : SizedObjects objects
+  unfolding sized
+  sized-objects =
+      eqb-true (length objects) objectTableWords (and-right (eqb (length places) placeTableWords) (eqb (length objects) objectTableWords) lengths)
+
+  -- what they show keeps the rules of damage
+  pub called-sound : Sound (view places objects)
+  unfolding sound
+  called-sound =
+      sound-facts (view places objects) (and-right (sized (tables places objects)) (soundState (view places objects)) (called .is-sound))
+
+  -- the caller is a record's number, and its domain one of the domains
+  pub caller-small : caller < records
+  caller-small = ec-small (view places objects) caller (called .is-ec)
+
+  pub caller-domain-small : objectAt objects caller domainWord < domains
+  caller-domain-small =
+      home (view places objects) called-sound (objectAt objects caller domainWord) (ec-home (view places objects) called-sound caller (called .is-ec)) .small
+
+  -- what a permitted object place of the caller's domain names is a record
+  pub named-record : {domain place : ℕ} {cap : Cap} (selector kind bit : ℕ) → domain ≡ objectAt objects caller domainWord →
+      place ≡ objectPlace domain selector → permitted (view places objects) place kind bit ≡ true → cap ≡ capAt places place → cap .resource < records
+  named-record selector kind bit is-domain is-place allowed is-cap =
+      rw (is-cap, is-place, is-domain)
+      (own-record (view places objects) called-sound caller selector kind bit (called .is-ec) (rw (is-place, is-domain) at allowed))
+
+  -- each table is that of what it shows
+  pub places-kept : placeTable (view places objects) ≡ places
+  places-kept = cap-table-back places sized-places
+
+  pub objects-kept : objectTable (view places objects) ≡ objects
+  objects-kept = record-table-back objects sized-objects
+
+  module _ {verdict : State → Call → Verdict} {c : Call} where
+    -- a refusal with the tables as they were runs the rule that refuses so
+    pub refused-runs : {reply : Reply} → verdict (view places objects) c ≡ refuse reply →
+        Runs verdict c (tables places objects) (tables places objects) reply
+    unfolding run
+    refused-runs e = record { replies = rw e; leaves = rw (e, places-kept, objects-kept) }
+
+    -- an answer with the tables that the rule's steps leave runs the rule that grants them
+    pub granted-runs : {answer : ℕ} {effects : List Effect} {block placesAfter objectsAfter : List ℕ} →
+        verdict (view places objects) c ≡ grant answer effects block → placesAfter ≡ placeTable (run effects (view places objects)) →
+        objectsAfter ≡ objectTable (run effects (view places objects)) →
+        Runs verdict c (tables places objects) (tables placesAfter objectsAfter) (Success answer)
+    granted-runs e p o = record { replies = rw e; leaves = rw (e, p, o) }

@@ -1,0 +1,2 @@
+-- What the contracts of calls share.
+pub mod Callers

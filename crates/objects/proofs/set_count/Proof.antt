@@ -1,0 +1,46 @@
+-- The count is stored where the record has it.
+use native.Mathlib.Omega.{arith}
+use denote.Ref.{now}
+use borrow.Author.Needs.{needs}
+use Rattle.objects.proofs.RecordTableLaws.{counted}
+use Rattle.objects.proofs.set_count.Statement.{statement}
+use Rattle.objects.proofs.set_count.Tie as tie
+
+number-requires : tie.Need-number-requires
+number-requires c κs = search needs
+
+cast-table : tie.Need-cast-table
+cast-table c = search needs
+
+mul-table : tie.Need-mul-table
+mul-table c = search needs
+
+add-table : tie.Need-add-table
+add-table c = search needs
+
+mul-table-2 : tie.Need-mul-table-2
+mul-table-2 c = search needs
+
+slice-write-table : tie.Need-slice-write-table
+slice-write-table c = search needs
+
+same-length : tie.Need-same-length
+same-length c = search needs
+
+returns : tie.Need-returns
+returns c =
+    let given = c .before .before .args in
+    rw (c .number .ensures) (counted (now (given .table)) (given .number .0) (omega arith) (omega arith) (given .value))
+
+pub set-count-spec : {M : Type 1} → statement M
+set-count-spec =
+    tie.close
+    (tie.spec
+    number-requires
+    cast-table
+    mul-table
+    add-table
+    mul-table-2
+    slice-write-table
+    same-length
+    returns)

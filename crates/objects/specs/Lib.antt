@@ -1,0 +1,2 @@
+-- What the contracts of the object table cite.
+pub mod Records

@@ -1,0 +1,3 @@
+-- What is proved of the place table's definitions.
+pub mod CapTableLaws
+pub mod GivenLaws

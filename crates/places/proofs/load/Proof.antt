@@ -1,0 +1,71 @@
+-- The four words of a place lie below the table's length, and are what it shows.
+use native.Mathlib.Omega.{arith}
+use borrow.Author.Needs.{needs}
+use Rattle.places.proofs.CapTableLaws.{loaded}
+use Rattle.places.proofs.load.Statement.{statement}
+use Rattle.places.proofs.load.Tie as tie
+
+number-requires : tie.Need-number-requires
+number-requires c κs = search needs
+
+cast-at : tie.Need-cast-at
+cast-at c = omega arith
+
+mul-at : tie.Need-mul-at
+mul-at c = omega arith
+
+mul-t5 : tie.Need-mul-t5
+mul-t5 c = omega arith
+
+shared-slice-read-t4 : tie.Need-shared-slice-read-t4
+shared-slice-read-t4 c = omega arith
+
+add-t7 : tie.Need-add-t7
+add-t7 c = omega arith
+
+mul-t8 : tie.Need-mul-t8
+mul-t8 c = omega arith
+
+shared-slice-read-t10 : tie.Need-shared-slice-read-t10
+shared-slice-read-t10 c = omega arith
+
+add-t11 : tie.Need-add-t11
+add-t11 c = omega arith
+
+mul-t12 : tie.Need-mul-t12
+mul-t12 c = omega arith
+
+shared-slice-read-t14 : tie.Need-shared-slice-read-t14
+shared-slice-read-t14 c = omega arith
+
+add-t15 : tie.Need-add-t15
+add-t15 c = omega arith
+
+mul-t16 : tie.Need-mul-t16
+mul-t16 c = omega arith
+
+shared-slice-read-t18 : tie.Need-shared-slice-read-t18
+shared-slice-read-t18 c = omega arith
+
+returns : tie.Need-returns
+returns c = loaded _ _ _ (c .before .before .before .before .number .ensures)
+
+pub load-spec : {M : Type 1} → statement M
+load-spec =
+    tie.close
+    (tie.spec
+    number-requires
+    cast-at
+    mul-at
+    mul-t5
+    shared-slice-read-t4
+    add-t7
+    mul-t8
+    shared-slice-read-t10
+    add-t11
+    mul-t12
+    shared-slice-read-t14
+    add-t15
+    mul-t16
+    shared-slice-read-t18
+    returns)

@@ -1,0 +1,2 @@
+-- What the contracts of the place table cite.
+pub mod Table

@@ -1,0 +1,5 @@
+-- What is proved of walks along parent links, of revocation and of the census.
+pub mod WalkLaws
+pub mod LinkLaws
+pub mod RevocationLaws
+pub mod CensusLaws

@@ -1,0 +1,29 @@
+-- Walks along the parent links of a place table.
+use Prim.Native.Nat.{ℕ, suc, _+_, _<_}
+use mathlib.Core.Path.{_≡_}
+use mathlib.Core.Bool.{Bool, _&&_, _||_}
+use mathlib.Core.List.{List, [], _∷_}
+use Rattle.words.specs.Sizes.{spaceOf, places}
+use Rattle.interface.specs.Basics.{if_then_else_}
+use Rattle.interface.specs.Places.{Cap, State, capAt}
+use Rattle.interface.specs.Effects.{among, below}
+
+-- links that a walk can follow: a parent is a place of the same space whose depth is one less, and a place without a parent has depth 0
+pub record Linked (caps : ℕ → Cap) : Type 0 where
+  pub rooted : (p : ℕ) → p < places → caps p .parent ≡ 0 → caps p .depth ≡ 0
+  pub parent-place : (p q : ℕ) → p < places → caps p .parent ≡ suc q → q < places
+  pub parent-space : (p q : ℕ) → p < places → caps p .parent ≡ suc q → spaceOf q ≡ spaceOf p
+  pub parent-depth : (p q : ℕ) → p < places → caps p .parent ≡ suc q → caps p .depth ≡ suc (caps q .depth)
+
+-- the first place of a list that is among some places: its number plus 1, or 0 where there is none
+unfoldable pub firstAmong : ℕ → ℕ → List ℕ → ℕ
+firstAmong first size [] = 0
+firstAmong first size (place ∷ list) = if among first size place then place + 1 else firstAmong first size list
+
+-- whether a place loses permissions when those of some places are revoked
+abbrev pub cutAt : (ℕ → Cap) → ℕ → ℕ → Bool → ℕ → Bool
+cutAt caps first size self place = below caps first size place || (self && among first size place)
+
+-- a state that shows a place table; what is read of it here does not look at the objects
+abbrev pub placesOnly : List ℕ → State
+placesOnly table = record { caps = capAt table; objects = λ number index. 0 }
