@@ -134,6 +134,6 @@ module _ (place domain : ℕ) (cap : Cap) (is-domain : domain ≡ domainOf place
     root-place h r e =
         rw (← is-domain, ne-eqb domain hypervisor h, eq-eqb domain root r, ← is-selector, ← is-space) e
 
-  pub null-place : (domain ≡ hypervisor → ⊥) → (domain ≡ root → ⊥) → cap ≡ nothing → cap ≡ bootCap place
+  pub other-place : (domain ≡ hypervisor → ⊥) → (domain ≡ root → ⊥) → cap ≡ nothing → cap ≡ bootCap place
   unfolding bootCap
-  null-place h r e = rw (← is-domain, ne-eqb domain hypervisor h, ne-eqb domain root r) e
+  other-place h r e = rw (← is-domain, ne-eqb domain hypervisor h, ne-eqb domain root r) e

@@ -1,6 +1,6 @@
 -- SM_CTRL on tables: what each way out of the code runs, by the values that the code has there.
 use Prim.Native.Nat.{ℕ, _+_, _-_, _≤_, _<_}
-use mathlib.Core.Path.{_≡_, sym, _∙_}
+use mathlib.Core.Path.{_≡_, refl, sym, _∙_}
 use mathlib.Core.Logic.{_≢_}
 use mathlib.Core.Bool.{true, false}
 use mathlib.Core.List.{List, [], _∷_}
@@ -8,16 +8,17 @@ use native.Mathlib.Omega.{arith}
 use lib.Dec.{eqb, ltb}
 use borrow.Author.Tests.{le-leb, lt-leb, lt-ltb, le-ltb, eq-eqb, ne-eqb}
 use Rattle.words.specs.Fields.{greatestWord}
+use Rattle.words.specs.Sizes.{records}
 use Rattle.descriptor.specs.declared.Reply.{Reply}
 use Rattle.descriptor.specs.declared.Reply.the-variants.{Success, ComTim, BadCap, BadPar}
 use Rattle.interface.specs.Basics.{if_then_else_, put}
-use Rattle.interface.specs.Places.{SM, domainWord, countWord, objectPlace, permitted, capAt, objectAt, recordTable}
+use Rattle.interface.specs.Places.{Cap, SM, domainWord, countWord, objectPlace, permitted, capAt, objectAt, recordTable}
 use Rattle.interface.specs.Effects.{count, act, run}
 use Rattle.interface.specs.Verdicts.{Call, Verdict, grant, require_else_then_}
 use Rattle.interface.specs.Rules.{Runs}
 use Rattle.interface.specs.Semaphores.{up, down, smCtrl}
 use Rattle.capabilities.specs.Callers.{tables, view, Called}
-use Rattle.capabilities.proofs.CallerLaws.{places-kept, refused-runs, granted-runs}
+use Rattle.capabilities.proofs.CallerLaws.{named-record, places-kept, refused-runs, granted-runs}
 
 -- what the function promises, from the tables before to an object table and a reply
 abbrev pub Answers : List ℕ → List ℕ → ℕ → ℕ → ℕ → List ℕ → Reply → Type 0
@@ -42,12 +43,22 @@ module _ {places objects : List ℕ} {caller : ℕ} (called : Called places obje
   not-permitted {selector} {operation} known is-place none c is-caller is-selector is-operation =
       refused-runs called (rw (is-caller, is-selector, is-operation, ← is-place, le-leb operation down known, none))
 
--- the semaphore that a permitted call names, and its count
-pub record Counted (places objects : List ℕ) (caller selector operation place number value : ℕ) : Type 0 where
+-- a call that passes the first two checks
+pub record Allowed (places objects : List ℕ) (caller selector operation place : ℕ) : Type 0 where
   pub called : Called places objects caller
   pub known : operation ≤ down
   pub is-place : place ≡ named objects caller selector
   pub allowed : permitted (view places objects) place SM operation ≡ true
+
+-- what its place names is a record
+pub semaphore-record : {places objects : List ℕ} {caller selector operation place : ℕ} {cap : Cap} → Allowed places objects caller selector operation place →
+    cap ≡ capAt places place → cap .resource < records
+semaphore-record {selector = selector} {operation = operation} a is-cap =
+    named-record (a .called) selector SM operation refl (a .is-place) (a .allowed) is-cap
+
+-- the semaphore that such a call names, and its count
+pub record Counted (places objects : List ℕ) (caller selector operation place number value : ℕ) : Type 0 where
+  pub call : Allowed places objects caller selector operation place
   pub is-number : number ≡ capAt places place .resource
   pub is-value : value ≡ objectAt objects number countWord
 
@@ -64,20 +75,20 @@ module _ {places objects : List ℕ} {caller selector operation place number val
     left : c .caller ≡ caller → c .first ≡ selector → c .second ≡ operation → smCtrl (view places objects) c ≡ (if eqb operation up then raise else lower)
     unfolding smCtrl
     left is-caller is-selector is-operation =
-        rw (is-caller, is-selector, is-operation, ← k .is-place, le-leb operation down (k .known), k .allowed, ← k .is-number, ← k .is-value)
+        rw (is-caller, is-selector, is-operation, ← k .call .is-place, le-leb operation down (k .call .known), k .call .allowed, ← k .is-number, ← k .is-value)
 
     -- the store of a count
     stores : {next : ℕ} {after : List ℕ} → smCtrl (view places objects) c ≡ grant 0 (count number next ∷ []) (c .target) →
         after ≡ recordTable (put (objectAt objects) number (put (objectAt objects number) countWord next)) →
         Runs smCtrl c (tables places objects) (tables places after) (Success 0)
     unfolding act run
-    stores granted stored = granted-runs (k .called) granted (sym (places-kept (k .called))) stored
+    stores granted stored = granted-runs (k .call .called) granted (sym (places-kept (k .call .called))) stored
 
   -- up, where the count is the greatest word, and below
   module _ (is-up : operation ≡ up) where
     pub full : value ≡ greatestWord → Answers places objects caller selector operation objects BadPar
     full top c is-caller is-selector is-operation =
-        refused-runs (k .called)
+        refused-runs (k .call .called)
         (left c is-caller is-selector is-operation ∙ rw (eq-eqb operation up is-up, le-ltb value greatestWord (omega arith)))
 
     pub raised : {after : List ℕ} → value < greatestWord →
@@ -90,7 +101,7 @@ module _ {places objects : List ℕ} {caller selector operation place number val
   module _ (is-down : operation ≢ up) where
     pub empty : value ≡ 0 → Answers places objects caller selector operation objects ComTim
     empty none c is-caller is-selector is-operation =
-        refused-runs (k .called)
+        refused-runs (k .call .called)
         (left c is-caller is-selector is-operation ∙ rw (ne-eqb operation up is-down, le-ltb 0 value (omega arith)))
 
     pub lowered : {after : List ℕ} → value ≢ 0 →

@@ -8,10 +8,17 @@ use descriptor::ObjectNumber;
 use descriptor::Reply;
 
 pub const UP: u32 = 0;
+
 pub const DOWN: u32 = 1;
 
 // SM_CTRL on sound tables: counts a semaphore up or down.
-pub fn sm_ctrl(caller: ObjectNumber, selector: u32, operation: u32, places: &[u32], objects: &mut [u32]) -> Reply
+pub fn sm_ctrl(
+    caller: ObjectNumber,
+    selector: u32,
+    operation: u32,
+    places: &[u32],
+    objects: &mut [u32],
+) -> Reply
     requires { ⌜ Called (now places) (now objects) (caller .0) ⌝ }
     ensures { λ r. ⌜ ((c : Call) → c .caller ≡ caller .0 → c .first ≡ selector → c .second ≡ operation → Runs smCtrl c (tables (now (places .entry)) (now (objects .entry))) (tables (now (places .entry)) (now (objects .exit))) r) ⌝ }
 {

@@ -17,6 +17,7 @@ use Rattle.descriptor.specs.declared.FoundPlace.{FoundPlace}
 use Rattle.descriptor.specs.declared.FoundPlace.the-variants.{At, Nowhere}
 use Rattle.descriptor.specs.declared.Reply.the-variants.{Success, BadPar, BadCap, Short}
 use Rattle.descriptor.specs.Numbers.{placed}
+use Rattle.descriptor.proofs.DescriptorLaws.{placed-at, placed-inside}
 use Rattle.interface.specs.Basics.{gather}
 use Rattle.interface.specs.Places.{Cap, live, capAt}
 use Rattle.interface.specs.Effects.{below}
@@ -24,16 +25,17 @@ use Rattle.interface.specs.Census.{descendants, counted}
 use Rattle.interface.proofs.BoolLaws.{cases}
 use Rattle.tree.specs.Walks.{placesOnly}
 
+-- what the next number adds to those that a test holds of, and that they are no fewer further on
 module _ (n : ℕ) (test : ℕ → Bool) where
-  pub gather-more : test n ≡ true → gather (n + 1) test ≡ gather n test ++ (n ∷ [])
+  gather-more : test n ≡ true → gather (n + 1) test ≡ gather n test ++ (n ∷ [])
   unfolding gather
   gather-more t = rw (add-one n) (rw t)
 
-  pub gather-none : test n ≡ false → gather (n + 1) test ≡ gather n test
+  gather-none : test n ≡ false → gather (n + 1) test ≡ gather n test
   unfolding gather
   gather-none f = rw (add-one n) (rw f (append-nil (gather n test)))
 
-  pub gather-longer : (m : ℕ) → n ≤ m → length (gather n test) ≤ length (gather m test)
+  gather-longer : (m : ℕ) → n ≤ m → length (gather n test) ≤ length (gather m test)
   unfolding gather
   gather-longer m l =
       le-ind (λ (k : ℕ). length (gather n test) ≤ length (gather k test)) (le-refl (length (gather n test)))
@@ -119,34 +121,16 @@ module _ {caps : ℕ → Cap} {place number count : ℕ} {before list : List ℕ
 
 -- a word that names a place is its number, and one that names none lies past the places
 module _ (place : ℕ) {found : FoundPlace} (is-found : found ≡ placed place) where
+  pub named-inside : (at : Place) → found ≡ At at → (at .0 ≡ place) × (place < places)
+  named-inside at there = placed-inside place at (sym is-found ∙ there)
+
   past-places : found ≡ Nowhere → places ≤ place
-  unfolding placed
   past-places none =
       cases (ltb place places)
       (λ (t : ltb place places ≡ true).
-      let named : found ≡ At (record { 0 = place }) = rw t at is-found in
-      let z : _≡_ {A = ℕ} 0 1 = cc in
+      let never : _≡_ {A = ℕ} 0 1 = cc (placed-at place (ltb-true place places t)) in
       absurd (omega arith))
       (λ (f : ltb place places ≡ false). ltb-false place places f)
-
-  module _ {at : Place} (there : found ≡ At at) where
-    named : (place < places) × (at .0 ≡ place)
-    unfolding placed
-    named =
-        cases (ltb place places)
-        (λ (t : ltb place places ≡ true).
-        let itself : found ≡ At (record { 0 = place }) = rw t at is-found in
-        (ltb-true place places t, cc))
-        (λ (f : ltb place places ≡ false).
-        let none : found ≡ Nowhere = rw f at is-found in
-        let z : _≡_ {A = ℕ} 0 1 = cc in
-        absurd (omega arith))
-
-    pub place-small : place < places
-    place-small = named .0
-
-    pub named-small : at .0 < places
-    named-small = rw (named .1) place-small
 
 -- the ways out of a census
 module _ (table : List ℕ) (place : ℕ) (list : List ℕ) {found : FoundPlace} (is-found : found ≡ placed place) where
@@ -156,10 +140,10 @@ module _ (table : List ℕ) (place : ℕ) (list : List ℕ) {found : FoundPlace}
 
   module _ {at : Place} {cap : Cap} {alive : Bool} (there : found ≡ At at) (is-cap : cap ≡ capAt table (at .0)) (is-alive : alive ≡ live cap) where
     is-place : leb places place ≡ false
-    is-place = lt-leb places place (place-small place is-found there)
+    is-place = lt-leb places place (named-inside place is-found at there .1)
 
     is-live : live (capAt table place) ≡ alive
-    is-live = sym (is-alive ∙ ap live (is-cap ∙ ap (capAt table) (named place is-found there .1)))
+    is-live = sym (is-alive ∙ ap live (is-cap ∙ ap (capAt table) (named-inside place is-found at there .0)))
 
     pub counts-null : not alive ≡ true → record { reply = BadCap; list = list } ≡ counted (placesOnly table) place list
     unfolding counted

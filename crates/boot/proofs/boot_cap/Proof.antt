@@ -1,6 +1,6 @@
 -- The domain decides as in the definition.
 use borrow.Author.Needs.{needs}
-use Rattle.boot.proofs.BootCapLaws.{hypervisor-place, root-place, null-place}
+use Rattle.boot.proofs.BootCapLaws.{hypervisor-place, root-place, other-place}
 use Rattle.boot.proofs.boot_cap.Statement.{statement}
 use Rattle.boot.proofs.boot_cap.Tie as tie
 
@@ -35,7 +35,7 @@ null-cap-requires : tie.Need-null-cap-requires
 null-cap-requires c κs = search needs
 
 returns-3 : tie.Need-returns-3
-returns-3 c = search (null-place, needs)
+returns-3 c = search (other-place, needs)
 
 pub boot-cap-spec : {M : Type 1} → statement M
 boot-cap-spec =

@@ -7,8 +7,8 @@ use borrow.Author.Needs.{needs}
 use borrow.Author.Tests.{not-true, not-false}
 use Rattle.words.specs.Sizes.{records}
 use Rattle.interface.specs.Places.{Cap}
-use Rattle.capabilities.proofs.CallerLaws.{sized-places, sized-objects, named-record}
-use Rattle.semaphores.proofs.SemaphoreLaws.{named, Counted, unknown-operation, not-permitted, full, raised, empty, lowered}
+use Rattle.capabilities.proofs.CallerLaws.{sized-places, sized-objects}
+use Rattle.semaphores.proofs.SemaphoreLaws.{named, Allowed, Counted, unknown-operation, not-permitted, semaphore-record, full, raised, empty, lowered}
 use Rattle.semaphores.proofs.sm_ctrl.Statement.{statement}
 use Rattle.semaphores.proofs.sm_ctrl.Tie as tie
 
@@ -29,29 +29,40 @@ is-named c = rw (c .before .domain .ensures .0) at (c .object-place .ensures .0)
 
 is-permitted-requires : tie.Need-is-permitted-requires
 is-permitted-requires c κs =
-    (sized-places (c .before .before .before .before .before .before .before .pre), sized-objects (c .before .before .before .before .before .before .before .pre), c .before .object-place .ensures .1, omega arith)
+    let called = c .before .before .before .before .before .before .before .pre in
+    (sized-places called, sized-objects called, c .before .object-place .ensures .1, omega arith)
 
 same-length : tie.Need-same-length
 same-length c = search needs
 
 returns-2 : tie.Need-returns-2
 returns-2 c =
-    not-permitted (c .before .before .before .before .before .before .before .before .before .pre) (omega arith) (is-named (c .before .before .before)) (sym (c .before .is-permitted .ensures) ∙ not-true _ (c .if2 .taken))
+    not-permitted (search needs) (omega arith) (is-named (c .before .before .before)) (sym (c .before .is-permitted .ensures) ∙ not-true _ (c .if2 .taken))
+
+-- the call passes the first two checks
+passes : (c : tie.Else2) →
+    let given = c .before .before .before .before .before .before .before .before .before .args in
+    Allowed (now (given .places)) (now (given .objects)) (given .caller .0) (given .selector) (given .operation) (c .before .before .before .object-place .result .0)
+passes c =
+    record {
+      called = c .before .before .before .before .before .before .before .before .before .pre;
+      known = omega arith;
+      is-place = is-named (c .before .before .before);
+      allowed = sym (c .before .is-permitted .ensures) ∙ not-false _ (c .if2 .left);
+    }
 
 load-requires : tie.Need-load-requires
 load-requires c κs = search (sized-places, needs)
 
 nth-requires : tie.Need-nth-requires
-nth-requires c κs =
-    named-record (c .before .before .before .before .before .before .before .before .before .before .pre) _ _ _ (c .before .before .before .before .before .domain .ensures .0) (c .before .before .before .before .object-place .ensures .0)
-    (sym (c .before .before .is-permitted .ensures) ∙ not-false _ (c .before .if2 .left)) (c .load .ensures)
+nth-requires c κs = semaphore-record (passes (c .before)) (c .load .ensures)
 
 -- the semaphore's number is a record's
 is-record : (c : tie.After-nth) → c .nth .result .0 < records
 is-record c = rw (c .nth .ensures) (nth-requires (c .before) _)
 
 load-requires-2 : tie.Need-load-requires-2
-load-requires-2 c κs = (sized-objects (c .before .before .before .before .before .before .before .before .before .before .before .before .pre), is-record (c .before), omega arith)
+load-requires-2 c κs = (sized-objects (passes (c .before .before .before) .called), is-record (c .before), omega arith)
 
 -- the semaphore and its count
 counted : (c : tie.After-load2) →
@@ -60,10 +71,7 @@ counted : (c : tie.After-load2) →
     (c .before .before .before .before .before .before .before .object-place .result .0) (c .before .before .nth .result .0) (c .load2 .result)
 counted c =
     record {
-      called = c .before .before .before .before .before .before .before .before .before .before .before .before .before .pre;
-      known = omega arith;
-      is-place = is-named (c .before .before .before .before .before .before .before);
-      allowed = sym (c .before .before .before .before .before .is-permitted .ensures) ∙ not-false _ (c .before .before .before .before .if2 .left);
+      call = passes (c .before .before .before .before);
       is-number = c .before .before .nth .ensures ∙ ap (λ (cap : Cap). cap .resource) (c .before .before .before .load .ensures);
       is-value = c .load2 .ensures;
     }
@@ -78,13 +86,15 @@ add-set-count : tie.Need-add-set-count
 add-set-count c = search needs
 
 set-count-requires : tie.Need-set-count-requires
-set-count-requires c κs = (sized-objects (c .before .before .before .before .before .before .before .before .before .before .before .before .before .before .before .before .pre), is-record (c .before .before .before .before .before))
+set-count-requires c κs = (sized-objects (counted (c .before .before .before) .call .called), is-record (c .before .before .before .before .before))
 
 same-length-3 : tie.Need-same-length-3
 same-length-3 c = search needs
 
 returns-4 : tie.Need-returns-4
-returns-4 c = raised (counted (c .before .before .before .before .before .before)) (c .before .before .before .before .before .if3 .taken) (omega arith) (c .before .before .set-count .ensures)
+returns-4 c =
+    let up = c .before .before .before .before .before in
+    raised (counted (up .before)) (up .if3 .taken) (omega arith) (c .before .before .set-count .ensures)
 
 same-length-4 : tie.Need-same-length-4
 same-length-4 c = search needs
@@ -96,13 +106,16 @@ sub-set-count : tie.Need-sub-set-count
 sub-set-count c = search needs
 
 set-count-requires-2 : tie.Need-set-count-requires-2
-set-count-requires-2 c κs = (sized-objects (c .before .before .before .before .before .before .before .before .before .before .before .before .before .before .before .before .pre), is-record (c .before .before .before .before .before))
+set-count-requires-2 c κs = (sized-objects (counted (c .before .before .before) .call .called), is-record (c .before .before .before .before .before))
 
 same-length-5 : tie.Need-same-length-5
 same-length-5 c = search needs
 
 returns-6 : tie.Need-returns-6
-returns-6 c = lowered (counted (c .before .before .before .before .before .before)) (c .before .before .before .before .before .if3 .left) (c .before .before .before .before .if5 .left) (c .before .before .set-count2 .ensures)
+returns-6 c =
+    let some = c .before .before .before .before in
+    let down = some .before in
+    lowered (counted (down .before)) (down .if3 .left) (some .if5 .left) (c .before .before .set-count2 .ensures)
 
 pub sm-ctrl-spec : {M : Type 1} → statement M
 sm-ctrl-spec =

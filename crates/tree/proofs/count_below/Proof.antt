@@ -39,10 +39,11 @@ loop-less c = search needs
 
 loop-again : tie.Need-loop-again Inv-loop μ-loop
 loop-again c =
-    let told = c .before in
-    let so-far = told .before .before .before .loop .inv .2 in
-    ⊎-elim (λ w. omega (arith, count-more _ _ _ (told .before .nth .ensures) (told .is-below .ensures) so-far (w .0 .taken)))
-    (λ w. omega (arith, count-same _ _ _ (told .before .nth .ensures) (told .is-below .ensures) so-far (w .0 .left))) (c .if1 .came)
+    let so-far = c .before .before .before .before .loop .inv .2 in
+    let is-at = c .before .before .nth .ensures in
+    let told = c .before .is-below .ensures in
+    ⊎-elim (λ w. omega (arith, count-more _ _ _ is-at told so-far (w .0 .taken))) (λ w. omega (arith, count-same _ _ _ is-at told so-far (w .0 .left)))
+    (c .if1 .came)
 
 returns : tie.Need-returns Inv-loop μ-loop
 returns c = count-all _ _ _ (c .before .loop .inv .2) (omega arith)

@@ -43,11 +43,11 @@ loop-less c = search needs
 
 loop-again : tie.Need-loop-again Inv-loop μ-loop
 loop-again c =
-    let looped = c .before .before in
-    let marked = looped .before in
+    let so-far = c .before .before .loop .inv .1 in
+    let are-marks = c .before .before .before .marks .ensures in
     ⊎-elim
-    (λ w. (omega arith, w .6 ∙ cut-marked _ _ _ _ _ _ (looped .loop .inv .1) (omega arith) (marked .marks .ensures) _ (w .2 .ensures) (w .0 .taken) (w .3 .ensures)))
-    (λ w. (omega arith, w .1 ∙ cut-unmarked _ _ _ _ _ _ (looped .loop .inv .1) (omega arith) (marked .marks .ensures) (w .0 .left))) (c .if1 .came)
+    (λ w. (omega arith, w .6 ∙ cut-marked _ _ _ _ _ _ so-far (omega arith) are-marks _ (w .2 .ensures) (w .0 .taken) (w .3 .ensures)))
+    (λ w. (omega arith, w .1 ∙ cut-unmarked _ _ _ _ _ _ so-far (omega arith) are-marks (w .0 .left))) (c .if1 .came)
 
 same-length : tie.Need-same-length Inv-loop μ-loop
 same-length c = cut-sized _ _ _ _ _ _ (c .before .loop .inv .1) ∙ sym (c .before .before .before .before .before .pre .0)

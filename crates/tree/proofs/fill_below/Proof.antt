@@ -30,8 +30,9 @@ mul-list c = search needs
 
 slice-write-list : tie.Need-slice-write-list Inv-loop μ-loop
 slice-write-list c =
-    let told = c .before in
-    filled-room (told .before .before .before .loop .inv .2) (told .before .nth .ensures) (told .is-below .ensures) (omega arith) (omega arith) (c .if1 .taken)
+    let asked = c .before in
+    filled-room (asked .before .before .before .loop .inv .2) (asked .before .nth .ensures) (asked .is-below .ensures) (omega arith) (omega arith)
+    (c .if1 .taken)
 
 add-count : tie.Need-add-count Inv-loop μ-loop
 add-count c = search needs
@@ -44,13 +45,14 @@ loop-less c = search needs
 
 loop-again : tie.Need-loop-again Inv-loop μ-loop
 loop-again c =
-    let told = c .before in
-    let so-far = told .before .before .before .loop .inv .2 in
+    let so-far = c .before .before .before .before .loop .inv .2 in
+    let is-at = c .before .before .nth .ensures in
+    let told = c .before .is-below .ensures in
     ⊎-elim
     (λ w.
-    let l = filled-room so-far (told .before .nth .ensures) (told .is-below .ensures) (omega arith) (omega arith) (w .0 .taken) in
-    (omega arith, omega arith, rw (w .1, w .2) (filled-more so-far (told .before .nth .ensures) (told .is-below .ensures) l (w .0 .taken))))
-    (λ w. (omega arith, omega arith, rw (w .1, w .2) (filled-same so-far (told .before .nth .ensures) (told .is-below .ensures) (w .0 .left)))) (c .if1 .came)
+    let room = filled-room so-far is-at told (omega arith) (omega arith) (w .0 .taken) in
+    (omega arith, omega arith, rw (w .1, w .2) (filled-more so-far is-at told room (w .0 .taken))))
+    (λ w. (omega arith, omega arith, rw (w .1, w .2) (filled-same so-far is-at told (w .0 .left)))) (c .if1 .came)
 
 same-length : tie.Need-same-length Inv-loop μ-loop
 same-length c = c .before .loop .inv .2 .as-long

@@ -43,7 +43,9 @@ loop-less c = search needs
 
 loop-again : tie.Need-loop-again Inv-loop μ-loop
 loop-again c =
-    (omega arith, marked-more (c .before .before .before .loop .inv .1) _ (omega arith) (mark-told _ _ _ _ (c .before .before .before .before .before .args .self-too) (c .before .nth .ensures) (c .is-below .ensures)))
+    let looped = c .before .before .before in
+    let told = mark-told _ _ _ _ (looped .before .before .args .self-too) (c .before .nth .ensures) (c .is-below .ensures) in
+    (omega arith, marked-more (looped .loop .inv .1) _ (omega arith) told)
 
 returns : tie.Need-returns Inv-loop μ-loop
 returns c = marked-all (c .before .loop .inv .1) (omega arith)

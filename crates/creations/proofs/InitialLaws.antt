@@ -1,0 +1,63 @@
+-- The initial range of a new PD: one more of its delegations, and the number of the domain that it goes to.
+use Prim.Native.Nat.{ℕ, zero, suc, _+_, _≤_, _<_}
+use mathlib.Core.Path.{_≡_, ap, _∙_}
+use mathlib.Core.Bool.{Bool}
+use mathlib.Core.List.{List}
+use native.Mathlib.Numerals.{add-one}
+use native.Mathlib.Omega.{arith}
+use lib.Dec.{eqb}
+use mir.Syntax.{w32}
+use mir.Val.{Fits}
+use borrow.Author.Tests.{eqb-true}
+use Rattle.words.specs.Sizes.{object, placeOf, records}
+use Rattle.words.specs.Sizes.{places as placeCount}
+use Rattle.descriptor.specs.declared.Range.{Range}
+use Rattle.descriptor.specs.declared.Reading.{Reading}
+use Rattle.descriptor.specs.declared.Reading.the-variants.{Good}
+use Rattle.descriptor.specs.Descriptors.{Proper}
+use Rattle.interface.specs.Basics.{listed, countBelow}
+use Rattle.interface.specs.Places.{PD, kindWord, capAt, objectAt, capTable}
+use Rattle.interface.specs.Effects.{givenCaps, act, run}
+use Rattle.interface.specs.Creations.{handOn}
+use Rattle.interface.proofs.BoolLaws.{either-way}
+use Rattle.interface.proofs.TurnLaws.{run-append}
+use Rattle.places.specs.Table.{Sized, Given}
+use Rattle.places.proofs.CapTableLaws.{cap-at-table, cap-at-end, given-end}
+use Rattle.objects.specs.Records.{pdCount}
+use Rattle.creations.specs.Creating.{Hands, Initial}
+
+-- one more place is handed on by a delegation
+pub hands-more : (from to base mask offset : ℕ) {before table after : List ℕ} {destination source selector masked : ℕ} {filled : Bool} → Sized table →
+    destination < placeCount → selector ≡ base + offset → destination ≡ placeOf to object selector → source ≡ placeOf from object selector →
+    masked ≡ mask → Hands (handOn from to base offset mask) before table → Given table after destination source masked filled →
+    Hands (handOn from to base (offset + 1) mask) before after
+unfolding listed run act
+hands-more from to base mask offset {before} {table} {after} {destination} {source} sized small is-selector is-destination is-source is-mask hands given =
+    record {
+      turns =
+          λ objects.
+          let caps = givenCaps (capAt table) destination source mask in
+          let shows : capAt after ≡ caps =
+          ap capAt (given .leaves ∙ ap (λ (m : ℕ). capTable (givenCaps (capAt table) destination source m)) is-mask) ∙
+          cap-at-table caps (given-end (capAt table) destination source mask (cap-at-end table sized) small) in
+          rw (add-one offset)
+          (rw (run-append (handOn from to base offset mask), hands .turns, shows, is-destination, is-source, is-selector));
+    }
+
+-- an initial range is a proper one of objects
+module _ {initial : Reading} {range : Range} (fits : Initial initial) (is : initial ≡ Good range) where
+  pub initial-proper : Proper range
+  initial-proper = fits .proper range is
+
+  pub initial-object : range .space ≡ object
+  initial-object = eqb-true (range .space) object (rw is at (fits .is-good))
+
+-- no more numbers below one pass a test than there are, so the next domain's number is a word
+count-small : (n : ℕ) (test : ℕ → Bool) → countBelow n test ≤ n
+unfolding countBelow
+count-small zero test = omega arith
+count-small (suc n) test =
+    either-way (λ (k : ℕ). countBelow n test + k ≤ suc n) (test n) 1 0 (omega (arith, count-small n test)) (omega (arith, count-small n test))
+
+pub next-fits : {count : ℕ} (table : List ℕ) → count ≡ pdCount table → Fits w32 (count + 1)
+next-fits table e = omega (arith, count-small records (λ r. eqb (objectAt table r kindWord) PD))

@@ -1,0 +1,42 @@
+-- The record is made and the place filled: the rule's last steps.
+use borrow.Author.Needs.{needs}
+use Rattle.creations.proofs.CreatingLaws.{created}
+use Rattle.creations.proofs.create.Statement.{statement}
+use Rattle.creations.proofs.create.Tie as tie
+
+make-requires : tie.Need-make-requires
+make-requires c κs = search needs
+
+object-place-requires : tie.Need-object-place-requires
+object-place-requires c κs = search needs
+
+number-requires : tie.Need-number-requires
+number-requires c κs = search needs
+
+greatest-requires : tie.Need-greatest-requires
+greatest-requires c κs = search needs
+
+store-requires : tie.Need-store-requires
+store-requires c κs = search needs
+
+same-length : tie.Need-same-length
+same-length c = search needs
+
+same-length-2 : tie.Need-same-length-2
+same-length-2 c = search needs
+
+returns : tie.Need-returns
+returns c = search (created, needs)
+
+pub create-spec : {M : Type 1} → statement M
+create-spec =
+    tie.close
+    (tie.spec
+    make-requires
+    object-place-requires
+    number-requires
+    greatest-requires
+    store-requires
+    same-length
+    same-length-2
+    returns)

@@ -1,0 +1,43 @@
+-- A null or malformed descriptor hands on nothing, and any other its range.
+use borrow.Author.Needs.{needs}
+use Rattle.creations.proofs.CreatingLaws.{hands-none}
+use Rattle.creations.proofs.InitialLaws.{initial-proper, initial-object}
+use Rattle.creations.proofs.give_initial.Statement.{statement}
+use Rattle.creations.proofs.give_initial.Tie as tie
+
+enum-told : tie.Need-enum-told
+enum-told c = search needs
+
+enum-told-2 : tie.Need-enum-told-2
+enum-told-2 c = search needs
+
+enum-known-initial : tie.Need-enum-known-initial
+enum-known-initial c = search needs
+
+hand-on-requires : tie.Need-hand-on-requires
+hand-on-requires c κs = search (initial-proper, initial-object, needs)
+
+returns : tie.Need-returns
+returns c = rw (c .enum-told .given .1) (hands-none (c .before .before .before .args .table .now))
+
+returns-2 : tie.Need-returns-2
+returns-2 c = rw (c .enum-told2 .given .1) (hands-none (c .before .before .before .args .table .now))
+
+same-length : tie.Need-same-length
+same-length c = search needs
+
+returns-3 : tie.Need-returns-3
+returns-3 c = rw (c .before .before .before .before .before .initial .given .1) (c .before .before .hand-on .ensures)
+
+pub give-initial-spec : {M : Type 1} → statement M
+give-initial-spec =
+    tie.close
+    (tie.spec
+    enum-told
+    enum-told-2
+    enum-known-initial
+    hand-on-requires
+    returns
+    returns-2
+    same-length
+    returns-3)

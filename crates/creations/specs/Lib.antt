@@ -1,0 +1,2 @@
+-- What the contracts of the creations' functions cite.
+pub mod Creating

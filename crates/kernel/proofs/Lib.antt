@@ -1,0 +1,2 @@
+-- What is proved of the kernel's promises.
+pub mod AnswerLaws

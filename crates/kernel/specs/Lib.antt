@@ -1,0 +1,3 @@
+-- What the kernel's functions promise.
+pub mod Admission
+pub mod Promises

@@ -1,0 +1,100 @@
+// LOOKUP.
+ghost use mathlib.Core.Path.{_≡_};
+ghost use mathlib.Core.Bool.{_&&_};
+ghost use mathlib.Core.List.{List};
+ghost use Prim.Native.Nat.{ℕ, _+_, _^_, _<_, _≤_};
+ghost use lib.Dec.{eqb};
+ghost use Rattle.words.specs.Sizes.{domains, spaceOf, greatestOrder};
+ghost use Rattle.words.specs.Sizes.{places as placeCount};
+ghost use Rattle.descriptor.specs.Descriptors.{Proper};
+ghost use Rattle.descriptor.specs.declared.Reading.the-variants.{Good};
+ghost use Rattle.interface.specs.Places.{live, capAt};
+ghost use Rattle.interface.specs.Verdicts.{Call, replyOf};
+ghost use Rattle.interface.specs.Lookup.{lookup, uniform, largest};
+ghost use Rattle.interface.specs.Lookup.{found as foundRange};
+ghost use Rattle.places.specs.Table.{Sized};
+ghost use Rattle.capabilities.specs.Callers.{view, Called};
+use descriptor::Cap;
+use descriptor::Descriptor;
+use descriptor::ObjectNumber;
+use descriptor::Place;
+use descriptor::Range;
+use descriptor::Reading;
+use descriptor::Reply;
+use words::ranges;
+use words::sizes;
+
+// Whether a capability is live, with some permissions and the resource that is an offset past another.
+fn continues(cap: Cap, permissions: u32, resource: u32, offset: u32) -> bool
+    ensures { λ r. ⌜ r ≡ (live cap && eqb (cap .permissions) permissions && eqb (cap .resource) (resource + offset)) ⌝ }
+{
+    places::is_live(cap)
+        & (cap.permissions == permissions)
+        & (cap.resource as u64 == resource as u64 + offset as u64)
+}
+
+// Whether the places of the range of an order around a place are all live, with equal permissions and resources rising by one.
+fn is_uniform(places: &[u32], place: Place, order: u32) -> bool
+    requires { ⌜ Sized (now places) × (place .0 < placeCount) × (order ≤ greatestOrder (spaceOf (place .0))) ⌝ }
+    ensures { λ r. ⌜ r ≡ uniform (capAt (now (places .entry))) (place .0) order ⌝ }
+{
+    let first = ranges::round_down(order, place.number());
+    let size = ranges::size(order);
+    let permissions = places::load(places, place).permissions;
+    let resource = places::load(places, Place::nth(first)).resource;
+    let mut offset = 0;
+    while offset < size {
+        let cap = places::load(places, Place::nth(first + offset));
+        if !continues(cap, permissions, resource, offset) {
+            return false;
+        }
+        offset += 1;
+    }
+    true
+}
+
+// The largest order of such a range around a place, or 0.
+fn largest_order(places: &[u32], place: Place) -> u32
+    requires { ⌜ Sized (now places) × (place .0 < placeCount) ⌝ }
+    ensures { λ r. ⌜ (r ≡ largest (capAt (now (places .entry))) (place .0) (greatestOrder (spaceOf (place .0)))) × (r ≤ greatestOrder (spaceOf (place .0))) ⌝ }
+{
+    let mut order = sizes::GREATEST_ORDER;
+    while 0 < order {
+        if is_uniform(places, place, order) {
+            return order;
+        }
+        order -= 1;
+    }
+    0
+}
+
+// The descriptor of the largest range around a range's base, or 0 where nothing is held there. A space begins at a multiple of its size, so places round as selectors do.
+fn found(places: &[u32], domain: u32, range: Range) -> u32
+    requires { ⌜ Sized (now places) × (domain < domains) × Proper range × ((p : ℕ) → p < placeCount → capAt (now places) p .permissions < 2 ^ 5) ⌝ }
+    ensures { λ r. ⌜ ((objects : List ℕ) → r ≡ foundRange (view (now (places .entry)) objects) domain (Good range)) ⌝ }
+{
+    let space = range.space();
+    let base = Place::of(domain, space, range.at(0));
+    let cap = places::load(places, base);
+    if !places::is_live(cap) {
+        return 0;
+    }
+    let order = largest_order(places, base);
+    let first = Place::nth(ranges::round_down(order, base.number()));
+    Descriptor::of(space, first.selector(), order, cap.permissions).word()
+}
+
+// LOOKUP on sound tables: the largest range around a descriptor's base, as a descriptor, or 0 where nothing is held there.
+pub fn look_up(caller: ObjectNumber, descriptor: u32, places: &[u32], objects: &[u32]) -> Reply
+    requires { ⌜ Called (now places) (now objects) (caller .0) ⌝ }
+    ensures { λ r. ⌜ ((c : Call) → c .caller ≡ caller .0 → c .first ≡ descriptor → r ≡ replyOf (lookup (view (now (places .entry)) (now (objects .entry))) c)) ⌝ }
+{
+    match Descriptor::from_word(descriptor).read() {
+        Reading::Null => Reply::Success(0),
+        Reading::Malformed => Reply::BadPar,
+        Reading::Good(range) => {
+            let domain = capabilities::domain(places, objects, caller);
+            Reply::Success(found(places, domain, range))
+        }
+    }
+}

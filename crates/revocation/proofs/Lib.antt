@@ -1,0 +1,2 @@
+-- What is proved of REVOKE.
+pub mod RevokeLaws

@@ -1,0 +1,83 @@
+-- What REVOKE answers and leaves, by its self word and the reading of its descriptor.
+use Prim.Native.Nat.{ℕ, _+_, _^_, _≤_, _<_}
+use mathlib.Core.Path.{_≡_, sym}
+use mathlib.Core.List.{List, [], _∷_}
+use native.Mathlib.Omega.{arith}
+use native.Mathlib.Nat.{add-zero}
+use lib.Dec.{eqb}
+use borrow.Author.Tests.{le-leb, lt-leb}
+use Rattle.words.specs.Sizes.{domains, spaces, placeOf}
+use Rattle.words.specs.Sizes.{places as placeCount}
+use Rattle.words.proofs.PlaceLaws.{start-rises}
+use Rattle.descriptor.specs.declared.Range.{Range}
+use Rattle.descriptor.specs.declared.Reading.the-variants.{Null, Malformed, Good}
+use Rattle.descriptor.specs.declared.Reply.the-variants.{Success, BadPar}
+use Rattle.descriptor.specs.Descriptors.{Proper, reading}
+use Rattle.interface.specs.Places.{State, domainWord, capAt, objectAt, capTable}
+use Rattle.interface.specs.Effects.{cut, cutCaps, act, run}
+use Rattle.interface.specs.Verdicts.{Call, refuse, grant, callerDomain}
+use Rattle.interface.specs.Rules.{Runs}
+use Rattle.interface.specs.Revoke.{revoke}
+use Rattle.capabilities.specs.Callers.{tables, view, Called}
+use Rattle.capabilities.proofs.CallerLaws.{places-kept, objects-kept, refused-runs, granted-runs}
+
+-- a range's mask, and its places in a domain: the first of them and how many they are
+pub record Aimed (domain : ℕ) (range : Range) (mask first size : ℕ) : Type 0 where
+  pub is-mask : mask ≡ range .mask
+  pub is-first : first ≡ placeOf domain (range .space) (range .base)
+  pub is-size : size ≡ 2 ^ range .order
+
+pub aims : (domain : ℕ) {space selector place first order size mask : ℕ} {range : Range} → mask ≡ range .mask → space ≡ range .space →
+    selector ≡ range .base + 0 → place ≡ placeOf domain space selector → first ≡ place → order ≡ range .order → size ≡ 2 ^ order → Aimed domain range mask first size
+aims domain {range} is-mask is-space is-selector is-place is-first is-order is-size =
+    record {
+      is-mask = is-mask;
+      is-first = rw (is-first, is-place, is-space, is-selector, add-zero (range .base));
+      is-size = rw (is-size, is-order);
+    }
+
+-- they are places
+pub range-ends : {domain mask first size : ℕ} {range : Range} → Aimed domain range mask first size → Proper range → domain < domains → first + size ≤ placeCount
+range-ends {range} aimed proper small =
+    omega (arith, aimed .is-first, aimed .is-size, proper .ends-inside, start-rises (range .space) spaces (proper .space-small))
+
+-- the verdict on a call whose self word is 0 or 1, by the reading of its descriptor
+module _ (s : State) (c : Call) (small : c .second ≤ 1) where
+  malformed-verdict : reading (c .first) ≡ Malformed → revoke s c ≡ refuse BadPar
+  unfolding revoke
+  malformed-verdict e = rw (le-leb (c .second) 1 small, e)
+
+  null-verdict : reading (c .first) ≡ Null → revoke s c ≡ grant 0 [] (c .target)
+  unfolding revoke
+  null-verdict e = rw (le-leb (c .second) 1 small, e)
+
+  good-verdict : (range : Range) → reading (c .first) ≡ Good range →
+      revoke s c ≡ grant 0 (cut (range .mask) (placeOf (callerDomain s c) (range .space) (range .base)) (2 ^ range .order) (eqb (c .second) 1) ∷ []) (c .target)
+  unfolding revoke
+  good-verdict range e = rw (le-leb (c .second) 1 small, e)
+
+module _ {places objects : List ℕ} {caller self : ℕ} (called : Called places objects caller) where
+  pub self-refused : 1 < self → (c : Call) → c .second ≡ self → Runs revoke c (tables places objects) (tables places objects) BadPar
+  unfolding revoke
+  self-refused large c is-second = refused-runs called (rw (is-second, lt-leb self 1 large))
+
+  module _ {descriptor : ℕ} (small : self ≤ 1) where
+    pub malformed-refused : reading descriptor ≡ Malformed → (c : Call) → c .first ≡ descriptor → c .second ≡ self →
+        Runs revoke c (tables places objects) (tables places objects) BadPar
+    malformed-refused e c is-first is-second =
+        refused-runs called (malformed-verdict (view places objects) c (rw is-second small) (rw is-first e))
+
+    pub null-revokes : reading descriptor ≡ Null → (c : Call) → c .first ≡ descriptor → c .second ≡ self →
+        Runs revoke c (tables places objects) (tables places objects) (Success 0)
+    unfolding run
+    null-revokes e c is-first is-second =
+        granted-runs called (null-verdict (view places objects) c (rw is-second small) (rw is-first e)) (sym (places-kept called)) (sym (objects-kept called))
+
+    pub range-revokes : {domain mask first size : ℕ} {range : Range} {after : List ℕ} → reading descriptor ≡ Good range →
+        domain ≡ objectAt objects caller domainWord → Aimed domain range mask first size →
+        after ≡ capTable (cutCaps mask first size (eqb self 1) (capAt places)) →
+        (c : Call) → c .caller ≡ caller → c .first ≡ descriptor → c .second ≡ self → Runs revoke c (tables places objects) (tables after objects) (Success 0)
+    unfolding run act
+    range-revokes {range} e is-domain aimed is-after c is-caller is-first is-second =
+        granted-runs called (good-verdict (view places objects) c (rw is-second small) range (rw is-first e))
+        (rw (is-second, is-caller, ← is-domain, ← aimed .is-first, ← aimed .is-mask, ← aimed .is-size) is-after) (sym (objects-kept called))

@@ -1,0 +1,174 @@
+-- The rules of damage taken together: a state is sound exactly where its PDs, its other records and its places keep theirs.
+use Prim.Native.Nat.{ℕ}
+use mathlib.Core.Path.{_≡_, refl, sym, _∙_}
+use mathlib.Core.Bool.{Bool, true, false, not, _&&_}
+use mathlib.Core.List.{List}
+use native.Mathlib.Omega.{arith}
+use lib.Dec.{eqb}
+use lib.ListN.{length}
+use borrow.Author.Tests.{eqb-true, not-true, not-false}
+use Rattle.words.specs.Sizes.{stride, places, records}
+use Rattle.interface.specs.Basics.{allBelow}
+use Rattle.interface.specs.Places.{Cap, State, Tables, nothing, placeTableWords, objectTableWords, sized, shown}
+use Rattle.interface.specs.Damage.{fixed-record, fixed-place, interrupt-rule, unnamed-rule, used-first, pdsBelow, pd-rule, hasPd, isEc, ec-rule, sc-rule, pt-rule, null-place, live-place, shallow, soundState, sound}
+use Rattle.interface.proofs.BoolLaws.{cases, not-both, and-left, and-right, both, same-test, each-of-four}
+use Rattle.interface.proofs.BelowLaws.{all-below-at, all-below}
+use Rattle.interface.proofs.Soundness.{OfRecords, OfPlaces, sound-facts, facts-sound}
+use Rattle.soundness.specs.Keeping.{recordsIn, placesIn, recordKeeps, placeKeeps, Numbered, Kept}
+
+-- a test that a call answered, by what the code made of the answer
+pub answered-yes : (answer test : Bool) → answer ≡ test → not answer ≡ false → test ≡ true
+answered-yes answer test e f = sym e ∙ not-false answer f
+
+answered-no : {C : Type 0} (answer test : Bool) → answer ≡ test → not answer ≡ true → test ≡ true → C
+answered-no answer test e f t = not-both test t (sym e ∙ not-true answer f)
+
+-- what the capabilities are does not matter to the rules of records
+pub caps-apart : (caps others : ℕ → Cap) (objects : ℕ → ℕ → ℕ) (r : ℕ) →
+    recordKeeps (record { caps = caps; objects = objects }) r ≡ recordKeeps (record { caps = others; objects = objects }) r
+unfolding fixed-record interrupt-rule unnamed-rule used-first hasPd isEc ec-rule sc-rule pt-rule recordKeeps
+caps-apart caps others objects r = refl
+
+module _ (s : State) where
+  -- a record that keeps the rules together keeps each, and so does a place
+  pub record-parts : (r : ℕ) → recordKeeps s r ≡ true →
+      ((fixed-record s r ≡ true) × (interrupt-rule s r ≡ true) × (unnamed-rule s r ≡ true) × (used-first s r ≡ true)) ×
+      (ec-rule s r ≡ true) × (sc-rule s r ≡ true) × (pt-rule s r ≡ true)
+  unfolding recordKeeps
+  record-parts r h =
+      let first = fixed-record s r && interrupt-rule s r && unnamed-rule s r && used-first s r in
+      let six = and-left (first && ec-rule s r && sc-rule s r) (pt-rule s r) h in
+      let five = and-left (first && ec-rule s r) (sc-rule s r) six in (
+        each-of-four (fixed-record s r) (interrupt-rule s r) (unnamed-rule s r) (used-first s r) (and-left first (ec-rule s r) five),
+        and-right first (ec-rule s r) five,
+        and-right (first && ec-rule s r) (sc-rule s r) six,
+        and-right (first && ec-rule s r && sc-rule s r) (pt-rule s r) h,
+      )
+
+  pub place-parts : (p : ℕ) → placeKeeps s p ≡ true →
+      (fixed-place s p ≡ true) × (null-place s p ≡ true) × (live-place s p ≡ true) × (shallow s p ≡ true)
+  unfolding placeKeeps
+  place-parts p h = each-of-four (fixed-place s p) (null-place s p) (live-place s p) (shallow s p) h
+
+  -- the three parts of a state keep their rules
+  pub record Parts : Type 0 where
+    pub pds : OfRecords (pd-rule s)
+    pub others : OfRecords (recordKeeps s)
+    pub all-places : OfPlaces (placeKeeps s)
+
+  pub sound-parts : soundState s ≡ true → Parts
+  unfolding recordKeeps placeKeeps
+  sound-parts h =
+      let k = sound-facts s h in
+      record {
+        pds = k .pds;
+        others =
+            λ r l. rw (k .fixed-records r l, k .interrupts r l, k .unnameds r l, k .used-firsts r l, k .ecs r l, k .scs r l, k .pts r l);
+        all-places = λ p l. rw (k .fixed-places p l, k .nulls p l, k .lives p l, k .shallows p l);
+      }
+
+  pub parts-sound : Parts → soundState s ≡ true
+  parts-sound k =
+      facts-sound s
+      (record {
+        fixed-records = λ r l. record-parts r (k .others r l) .0 .0;
+        fixed-places = λ p l. place-parts p (k .all-places p l) .0;
+        interrupts = λ r l. record-parts r (k .others r l) .0 .1;
+        unnameds = λ r l. record-parts r (k .others r l) .0 .2;
+        used-firsts = λ r l. record-parts r (k .others r l) .0 .3;
+        pds = k .pds;
+        ecs = λ r l. record-parts r (k .others r l) .1;
+        scs = λ r l. record-parts r (k .others r l) .2;
+        pts = λ r l. record-parts r (k .others r l) .3;
+        nulls = λ p l. place-parts p (k .all-places p l) .1;
+        lives = λ p l. place-parts p (k .all-places p l) .2;
+        shallows = λ p l. place-parts p (k .all-places p l) .3;
+      })
+
+-- tables that have the right lengths
+module _ (place-table object-table : List ℕ) (answer : Bool) (asked : answer ≡ sized (record { places = place-table; objects = object-table }))
+    (yes : not answer ≡ false) where
+  abbrev places-right : Bool
+  places-right = eqb (length place-table) placeTableWords
+
+  abbrev objects-right : Bool
+  objects-right = eqb (length object-table) objectTableWords
+
+  both-right : (places-right && objects-right) ≡ true
+  unfolding sized
+  both-right = answered-yes answer (places-right && objects-right) asked yes
+
+  pub places-long : length place-table ≡ placeTableWords
+  places-long = eqb-true (length place-table) placeTableWords (and-left places-right objects-right both-right)
+
+  pub objects-long : length object-table ≡ objectTableWords
+  objects-long = eqb-true (length object-table) objectTableWords (and-right places-right objects-right both-right)
+
+  -- and PDs that keep their rule and have been counted
+  pub numbered-so : {pds : ℕ} (kept : Bool) → kept ≡ allBelow records (pd-rule (recordsIn object-table)) → not kept ≡ false →
+      pds ≡ pdsBelow (recordsIn object-table) records → Numbered object-table pds
+  numbered-so kept e f counted =
+      record { long = objects-long; in-turn = answered-yes kept (allBelow records (pd-rule (recordsIn object-table))) e f; counted = counted }
+
+-- and other records that keep theirs
+pub kept-so : {table : List ℕ} {pds : ℕ} → Numbered table pds → (kept : Bool) → kept ≡ allBelow records (recordKeeps (recordsIn table)) → not kept ≡ false →
+    Kept table pds
+kept-so {table} numbered kept e f = record { numbered = numbered; others = answered-yes kept (allBelow records (recordKeeps (recordsIn table))) e f }
+
+module _ (tables : Tables) where
+  -- tables that break a part are not sound
+  not-sound : (sound tables ≡ true → ⊥) → false ≡ sound tables
+  not-sound n = cases (sound tables) (λ (t : sound tables ≡ true). absurd (n t)) (λ (f : sound tables ≡ false). sym f)
+
+  parts : sound tables ≡ true → Parts (shown tables)
+  unfolding sound
+  parts h = sound-parts (shown tables) (and-right (sized tables) (soundState (shown tables)) h)
+
+  module _ (answer : Bool) where
+    pub sizes-broken : answer ≡ sized tables → not answer ≡ true → false ≡ sound tables
+    unfolding sound
+    sizes-broken e f = not-sound (λ h. answered-no answer (sized tables) e f (and-left (sized tables) (soundState (shown tables)) h))
+
+    pub pds-broken : answer ≡ allBelow records (pd-rule (recordsIn (tables .objects))) → not answer ≡ true → false ≡ sound tables
+    unfolding pdsBelow pd-rule
+    pds-broken e f =
+        not-sound
+        (λ h.
+        answered-no answer (allBelow records (pd-rule (recordsIn (tables .objects)))) e f
+        (all-below records (pd-rule (recordsIn (tables .objects))) (parts h .pds)))
+
+    pub records-broken : answer ≡ allBelow records (recordKeeps (recordsIn (tables .objects))) → not answer ≡ true → false ≡ sound tables
+    records-broken e f =
+        not-sound
+        (λ h.
+        answered-no answer (allBelow records (recordKeeps (recordsIn (tables .objects)))) e f
+        (all-below records (recordKeeps (recordsIn (tables .objects)))
+        (λ r l. rw (caps-apart (λ p. nothing) (shown tables .caps) (shown tables .objects) r) (parts h .others r l))))
+
+    pub hypervisor-broken : answer ≡ allBelow stride (fixed-place (placesIn (tables .places))) → not answer ≡ true → false ≡ sound tables
+    unfolding fixed-place
+    hypervisor-broken e f =
+        not-sound
+        (λ h.
+        answered-no answer (allBelow stride (fixed-place (placesIn (tables .places)))) e f
+        (all-below stride (fixed-place (placesIn (tables .places)))
+        (λ p l. place-parts (shown tables) p (parts h .all-places p (omega arith)) .0)))
+
+    -- tables whose lengths and records are right are sound exactly where their places keep the rules
+    pub places-decide : {pds : ℕ} → sized tables ≡ true → Kept (tables .objects) pds → answer ≡ allBelow places (placeKeeps (shown tables)) → answer ≡ sound tables
+    unfolding pdsBelow pd-rule sound
+    places-decide right kept e =
+        e ∙
+        same-test (allBelow places (placeKeeps (shown tables))) (sized tables && soundState (shown tables))
+        (λ (t : allBelow places (placeKeeps (shown tables)) ≡ true).
+        both (sized tables) (soundState (shown tables)) right
+        (parts-sound (shown tables)
+        (record {
+          pds = all-below-at records (pd-rule (recordsIn (tables .objects))) (kept .numbered .in-turn);
+          others =
+              λ r l.
+              rw (caps-apart (shown tables .caps) (λ p. nothing) (shown tables .objects) r)
+              (all-below-at records (recordKeeps (recordsIn (tables .objects))) (kept .others) r l);
+          all-places = all-below-at places (placeKeeps (shown tables)) t;
+        })))
+        (λ (h : (sized tables && soundState (shown tables)) ≡ true). all-below places (placeKeeps (shown tables)) (parts h .all-places))

@@ -1,0 +1,281 @@
+-- The rules of places as the code tests them: what each definition gives on each way out of the function that tests it.
+use Prim.Native.Nat.{ℕ, zero, suc, _+_, _-_, _*_, _/_, _%_, _≤_, _<_}
+use mathlib.Core.Path.{_≡_, refl, sym, _∙_}
+use mathlib.Core.Bool.{Bool, true, false, not, _&&_, _||_, and-false}
+use mathlib.Core.List.{List}
+use native.Mathlib.Omega.{arith}
+use lib.Dec.{eqb, leb, ltb}
+use lib.ListN.{length}
+use borrow.Author.Tests.{ltb-true, leb-true, leb-false, lt-ltb, le-ltb, le-leb, lt-leb, eqb-true, eq-eqb, ne-eqb, not-false}
+use Rattle.words.specs.Sizes.{domains, memory, io, object, spaces, selectors, start, stride, placeOf, domainOf, spaceOf, selectorOf, places, records, greatestDepth}
+use Rattle.words.specs.Permissions.{within}
+use Rattle.words.proofs.PlaceLaws.{domain-back, space-back, selector-back, made-so, space-small, selector-small}
+use Rattle.interface.specs.Places.{Cap, State, Tables, live, nothing, parentless, free, placeTableWords, objectAt, shown, kindOf, greatestOf, greatest}
+use Rattle.interface.specs.Boot.{hypervisor, cpus, rootPd, bootRecord, hypervisorCap, bootCap}
+use Rattle.interface.specs.Damage.{between1, sameCap, fixed-place, hasPd, null-place, isResource, live-place, shallow}
+use Rattle.interface.proofs.BoolLaws.{cases, and-right, both, same-test, or-none-left, or-none-right}
+use Rattle.interface.proofs.PlaceFacts.{same-cap, some-live}
+use Rattle.soundness.specs.Keeping.{parentFits, lineageKeeps, placeKeeps, Numbered, Kept, Around}
+use Rattle.soundness.proofs.PdLaws.{home-counted}
+
+-- the greatest permissions
+pub greatest-unknown : (kind : ℕ) → (kind ≡ 1 → ⊥) → (kind ≡ 2 → ⊥) → (kind ≡ 3 → ⊥) → (kind ≡ 4 → ⊥) → (kind ≡ 5 → ⊥) → 0 ≡ greatestOf kind
+greatest-unknown zero a b d e f = refl
+greatest-unknown (suc zero) a b d e f = absurd (a refl)
+greatest-unknown (suc (suc zero)) a b d e f = absurd (b refl)
+greatest-unknown (suc (suc (suc zero))) a b d e f = absurd (d refl)
+greatest-unknown (suc (suc (suc (suc zero)))) a b d e f = absurd (e refl)
+greatest-unknown (suc (suc (suc (suc (suc zero))))) a b d e f = absurd (f refl)
+greatest-unknown (suc (suc (suc (suc (suc (suc n)))))) a b d e f = refl
+
+module _ (space kind : ℕ) where
+  pub greatest-memory : space ≡ memory → 7 ≡ greatest space kind
+  greatest-memory e = rw e
+
+  pub greatest-io : space ≡ io → 1 ≡ greatest space kind
+  greatest-io e = rw e
+
+  pub greatest-object : (most : ℕ) → (space ≡ memory → ⊥) → (space ≡ io → ⊥) → most ≡ greatestOf kind → most ≡ greatest space kind
+  greatest-object most m i h = rw (ne-eqb space memory m, ne-eqb space io i) h
+
+-- the space of a place from its number alone
+space-at : (domain space selector : ℕ) → space < spaces → selector < selectors space →
+    placeOf domain space selector / selectors space % spaces ≡ space
+space-at domain zero selector h l =
+    let block : placeOf domain zero selector / selectors zero ≡ domain * 3 = omega arith in rw block (omega arith)
+space-at domain (suc zero) selector h l =
+    let block : placeOf domain (suc zero) selector / selectors (suc zero) ≡ domain * 3 + 1 = omega arith in rw block (omega arith)
+space-at domain (suc (suc zero)) selector h l =
+    let block : placeOf domain (suc (suc zero)) selector / selectors (suc (suc zero)) ≡ domain * 3 + 2 = omega arith in rw block (omega arith)
+space-at domain (suc (suc (suc n))) selector h l = absurd (omega arith)
+
+pub space-so : (place : ℕ) → place / selectors object % spaces ≡ spaceOf place
+space-so place =
+    rw (made-so place) at (space-at (domainOf place) (spaceOf place) (selectorOf place) (space-small place) (selector-small place))
+
+-- domain 0 at boot
+boot-there : (space selector : ℕ) → space < spaces → selector < selectors space → bootCap (placeOf hypervisor space selector) ≡ hypervisorCap space selector
+unfolding bootCap
+boot-there space selector h l = rw (selector-back hypervisor space selector h l, domain-back hypervisor space selector h l, space-back hypervisor space selector h l)
+
+module _ (place : ℕ) (cap : Cap) where
+  pub boot-memory : place < start io → cap ≡ parentless place 7 → cap ≡ bootCap place
+  unfolding hypervisorCap
+  boot-memory l e =
+      let same : placeOf hypervisor memory place ≡ place = omega arith in
+      e ∙ sym (rw same at (boot-there memory place (omega arith) (omega arith)))
+
+  pub boot-io : start io ≤ place → place < start object → cap ≡ parentless (place - start io) 1 → cap ≡ bootCap place
+  unfolding hypervisorCap
+  boot-io g l e =
+      let same : placeOf hypervisor io (place - start io) ≡ place = omega arith in
+      e ∙ sym (rw same at (boot-there io (place - start io) (omega arith) (omega arith)))
+
+  module _ (g : start object ≤ place) (l : place < stride) where
+    boot-selector : bootCap place ≡ hypervisorCap object (place - start object)
+    boot-selector =
+        let same : placeOf hypervisor object (place - start object) ≡ place = omega arith in
+        rw same at (boot-there object (place - start object) (omega arith) (omega arith))
+
+    pub boot-idle : place - start object < cpus → cap ≡ parentless (place - start object) 1 → cap ≡ bootCap place
+    unfolding hypervisorCap bootRecord
+    boot-idle b e =
+        let early : ltb (place - start object) cpus ≡ true = lt-ltb (place - start object) cpus b in
+        let inside : ltb (place - start object) rootPd ≡ true = lt-ltb (place - start object) rootPd (omega arith) in
+        e ∙ (rw (boot-selector, inside, early))
+
+    pub boot-interrupt : cpus ≤ place - start object → place - start object < rootPd → cap ≡ parentless (place - start object) 3 → cap ≡ bootCap place
+    unfolding hypervisorCap bootRecord
+    boot-interrupt d b e =
+        let late : ltb (place - start object) cpus ≡ false = le-ltb (place - start object) cpus d in
+        let inside : ltb (place - start object) rootPd ≡ true = lt-ltb (place - start object) rootPd b in
+        e ∙ (rw (boot-selector, inside, late))
+
+    pub boot-rest : rootPd ≤ place - start object → cap ≡ nothing → cap ≡ bootCap place
+    unfolding hypervisorCap
+    boot-rest d e = e ∙ (rw (boot-selector, le-ltb (place - start object) rootPd d))
+
+-- domain 0 is the first stride
+pub first-stride : (place : ℕ) → ltb place stride ≡ eqb (domainOf place) hypervisor
+first-stride place =
+    same-test (ltb place stride) (eqb (domainOf place) hypervisor)
+    (λ (t : ltb place stride ≡ true). let l : place < stride = ltb-true place stride t in eq-eqb (domainOf place) hypervisor (omega arith))
+    (λ (t : eqb (domainOf place) hypervisor ≡ true).
+    let e : domainOf place ≡ hypervisor = eqb-true (domainOf place) hypervisor t in
+    lt-ltb place stride (omega arith))
+
+pub past-hypervisor : (place : ℕ) → stride ≤ place → eqb (domainOf place) hypervisor ≡ false
+past-hypervisor place l = sym (first-stride place) ∙ le-ltb place stride l
+
+-- a live place that is not turned down at once is at home and names a number below those of selectors
+module _ (home : Bool) (resource : ℕ) (kept : (not home || leb (selectors object) resource) ≡ false) where
+  pub home-kept : home ≡ true
+  home-kept = not-false home (or-none-left (not home) (leb (selectors object) resource) kept)
+
+  pub resource-small : resource < records
+  resource-small = leb-false (selectors object) resource (or-none-right (not home) (leb (selectors object) resource) kept)
+
+-- whether a number is a resource's
+module _ (s : State) (space resource : ℕ) where
+  no-resource : selectors object ≤ resource → isResource s space resource ≡ false
+  no-resource l =
+      cases (eqb space object) (λ (t : eqb space object ≡ true). rw (t, le-ltb resource records l))
+      (λ (f : eqb space object ≡ false). rw (f, le-ltb resource records l))
+
+module _ (s : State) (p : ℕ) where
+  pub fixed-past : stride ≤ p → true ≡ fixed-place s p
+  unfolding fixed-place
+  fixed-past l = rw (past-hypervisor p l)
+
+  pub fixed-same : (same : Bool) (a b : Cap) → p < stride → a ≡ s .caps p → b ≡ bootCap p → same ≡ sameCap a b → same ≡ fixed-place s p
+  unfolding fixed-place
+  fixed-same same a b l e f h = h ∙ rw (← first-stride p, lt-ltb p stride l, e, f)
+
+  -- the parent of a capability
+  pub parent-past : (space : ℕ) (cap : Cap) (q : ℕ) → places ≤ q → false ≡ parentFits s space cap q
+  parent-past space cap q l = rw (le-ltb q places l)
+
+  pub parent-so : (space : ℕ) (cap : Cap) (q : ℕ) (above : Cap) (other : ℕ) (inside : Bool) → q < places → above ≡ s .caps q → other ≡ spaceOf q →
+      inside ≡ within (cap .permissions) (above .permissions) →
+      (ltb 0 (above .permissions) && eqb other space && eqb (above .resource) (cap .resource) && inside && eqb (above .depth + 1) (cap .depth)) ≡
+      parentFits s space cap q
+  parent-so space cap q above other inside l e a h = rw (h, e, a, lt-ltb q places l)
+
+  module _ (cap : Cap) (held : cap ≡ s .caps p) where
+    pub lineage-none : (space : ℕ) → cap .parent ≡ 0 → space ≡ spaceOf p → (eqb (cap .depth) 0 && (eqb space object || ltb p stride)) ≡ lineageKeeps s p
+    lineage-none space e a =
+        let none : eqb (s .caps p .parent) 0 ≡ true = rw held at (eq-eqb (cap .parent) 0 e) in
+        rw (none, held, a, first-stride p)
+
+    pub lineage-parent : (space : ℕ) (fits : Bool) → (cap .parent ≡ 0 → ⊥) → space ≡ spaceOf p → fits ≡ parentFits s space cap (cap .parent - 1) → fits ≡ lineageKeeps s p
+    lineage-parent space fits n a h =
+        let some : eqb (s .caps p .parent) 0 ≡ false = rw held at (ne-eqb (cap .parent) 0 n) in
+        h ∙ rw (a, held, some)
+
+    -- a null place
+    pub null-so : (null : Bool) → stride ≤ p → cap .permissions ≡ 0 → null ≡ (live cap || sameCap cap nothing) → null ≡ placeKeeps s p
+    unfolding placeKeeps fixed-place null-place live-place shallow
+    null-so null l e h =
+        let dead : live cap ≡ false = rw e in
+        let only : null ≡ sameCap cap nothing = h ∙ rw dead in
+        cases (sameCap cap nothing)
+        (λ (t : sameCap cap nothing ≡ true).
+        let zeros : cap ≡ nothing = same-cap cap nothing t in
+        only ∙ t ∙ rw (← held, zeros, past-hypervisor p l))
+        (λ (f : sameCap cap nothing ≡ false). only ∙ f ∙ rw (← held, dead, f, past-hypervisor p l))
+
+    -- a null place and rule 11, and rules 10 and 12
+    pub live-null : cap .permissions ≡ 0 → true ≡ live-place s p
+    unfolding live-place
+    live-null e = let dead : live cap ≡ false = rw e in rw (← held, dead)
+
+    pub null-test : (null : Bool) → null ≡ (live cap || sameCap cap nothing) → null ≡ null-place s p
+    unfolding null-place
+    null-test null h = rw (← held) h
+
+    pub shallow-test : leb (cap .depth) greatestDepth ≡ shallow s p
+    unfolding shallow
+    shallow-test = rw held
+
+    -- a live place
+    pub live-so : (lives : Bool) → stride ≤ p → (cap .permissions ≡ 0 → ⊥) → lives ≡ live-place s p → (lives && leb (cap .depth) greatestDepth) ≡ placeKeeps s p
+    unfolding placeKeeps fixed-place null-place shallow
+    live-so lives l n h = rw (h, ← held, some-live (cap .permissions) n, past-hypervisor p l)
+
+    module _ (home : Bool) (alive : 0 < cap .permissions) (at-home : home ≡ (eqb (domainOf p) hypervisor || hasPd s (domainOf p))) where
+      pub live-out : (not home || leb (selectors object) (cap .resource)) ≡ true → false ≡ live-place s p
+      unfolding live-place
+      live-out h =
+          rw (← held, lt-ltb 0 (cap .permissions) alive, ← at-home)
+          (cases home
+          (λ (t : home ≡ true).
+          let past : selectors object ≤ cap .resource = leb-true (selectors object) (cap .resource) (rw t at h) in
+          rw (t, no-resource s (spaceOf p) (cap .resource) past))
+          (λ (f : home ≡ false). rw f))
+
+      module _ (space kind most : ℕ) (kept : (not home || leb (selectors object) (cap .resource)) ≡ false) (in-space : space ≡ spaceOf p)
+          (known : kind ≡ kindOf s (cap .resource)) (bound : most ≡ greatest space kind) where
+        bound-there : most ≡ greatest (spaceOf p) (kindOf s (cap .resource))
+        bound-there = rw (bound, known, in-space)
+
+        pub live-above : most < cap .permissions → false ≡ live-place s p
+        unfolding live-place
+        live-above b =
+            rw (
+              ← held,
+              lt-ltb 0 (cap .permissions) alive,
+              ← at-home,
+              home-kept home (cap .resource) kept,
+              ← bound-there,
+              lt-leb (cap .permissions) most b,
+              and-false (isResource s (spaceOf p) (cap .resource)),
+            )
+
+        -- a capability with permissions for an object names no free record
+        named : cap .permissions ≤ most → isResource s (spaceOf p) (cap .resource) ≡ true
+        named b =
+            let inside : ltb (cap .resource) records ≡ true = lt-ltb (cap .resource) records (resource-small home (cap .resource) kept) in
+            cases (eqb (spaceOf p) object)
+            (λ (o : eqb (spaceOf p) object ≡ true).
+            cases (eqb (kindOf s (cap .resource)) free)
+            (λ (f : eqb (kindOf s (cap .resource)) free ≡ true).
+            let none : most ≡ 0 = bound-there ∙ rw (eqb-true (spaceOf p) object o, eqb-true (kindOf s (cap .resource)) free f) in
+            absurd (omega arith))
+            (λ (u : eqb (kindOf s (cap .resource)) free ≡ false). rw (o, inside, u)))
+            (λ (n : eqb (spaceOf p) object ≡ false). rw (n, inside))
+
+        pub live-lineage : (lineage : Bool) → cap .permissions ≤ most → lineage ≡ lineageKeeps s p → lineage ≡ live-place s p
+        unfolding live-place
+        live-lineage lineage b h =
+            h ∙
+            rw (
+              ← held,
+              lt-ltb 0 (cap .permissions) alive,
+              ← at-home,
+              home-kept home (cap .resource) kept,
+              named b,
+              ← bound-there,
+              le-leb (cap .permissions) most b,
+            )
+
+-- a domain past 0 has a PD exactly where the place is below the stride of the last PD's domain
+home-below : {table : List ℕ} {pds : ℕ} → Numbered table pds → (caps : ℕ → Cap) (p : ℕ) → stride ≤ p →
+    ltb p (stride * (pds + 1)) ≡ (eqb (domainOf p) hypervisor || hasPd (record { caps = caps; objects = objectAt table }) (domainOf p))
+home-below {pds = pds} numbered caps p l =
+    rw (past-hypervisor p l)
+    (same-test (ltb p (stride * (pds + 1))) (between1 pds (domainOf p))
+    (λ (t : ltb p (stride * (pds + 1)) ≡ true).
+    let b : p < stride * (pds + 1) = ltb-true p (stride * (pds + 1)) t in
+    both (leb 1 (domainOf p)) (leb (domainOf p) pds) (le-leb 1 (domainOf p) (omega arith)) (le-leb (domainOf p) pds (omega arith)))
+    (λ (t : between1 pds (domainOf p) ≡ true).
+    let b : domainOf p ≤ pds = leb-true (domainOf p) pds (and-right (leb 1 (domainOf p)) (leb (domainOf p) pds) t) in
+    lt-ltb p (stride * (pds + 1)) (omega arith)) ∙
+    home-counted numbered caps (domainOf p) (domainOf p) refl)
+
+-- the places of a space have its number among all spaces in common
+module _ (number p : ℕ) (g : selectors object * number ≤ p) (l : p < selectors object * (number + 1)) where
+  space-there : number % spaces ≡ spaceOf p
+  space-there = let block : p / selectors object ≡ number = omega arith in rw block at (space-so p)
+
+  home-there : {table : List ℕ} {pds : ℕ} → Numbered table pds → (caps : ℕ → Cap) → spaces ≤ number →
+      ltb number (spaces * (pds + 1)) ≡ (eqb (domainOf p) hypervisor || hasPd (record { caps = caps; objects = objectAt table }) (domainOf p))
+  home-there {pds = pds} numbered caps b =
+      same-test (ltb number (spaces * (pds + 1))) (ltb p (stride * (pds + 1)))
+      (λ (t : ltb number (spaces * (pds + 1)) ≡ true).
+      let few : number < spaces * (pds + 1) = ltb-true number (spaces * (pds + 1)) t in
+      lt-ltb p (stride * (pds + 1)) (omega arith))
+      (λ (t : ltb p (stride * (pds + 1)) ≡ true).
+      let few : p < stride * (pds + 1) = ltb-true p (stride * (pds + 1)) t in
+      lt-ltb number (spaces * (pds + 1)) (omega arith)) ∙
+      home-below numbered caps p (omega arith)
+
+  pub around-there : (tables : Tables) {pds : ℕ} → length (tables .places) ≡ placeTableWords → Kept (tables .objects) pds → spaces ≤ number → number < domains * spaces →
+      Around tables p (number % spaces) (ltb number (spaces * (pds + 1)))
+  around-there tables long kept b d =
+      record {
+        places-long = long;
+        objects-long = kept .numbered .long;
+        is-place = omega arith;
+        in-space = space-there;
+        at-home = home-there (kept .numbered) (shown tables .caps) b;
+      }

@@ -1,0 +1,2 @@
+-- What the functions of the damage test cite beside the rules of damage themselves.
+pub mod Keeping

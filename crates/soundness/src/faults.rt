@@ -1,0 +1,96 @@
+// The rules of damage by their numbers, and the lowest record and place that break one.
+ghost use mathlib.Core.Path.{_≡_};
+ghost use Prim.Native.Nat.{_<_, _≤_};
+ghost use lib.ListN.{length};
+ghost use Rattle.words.specs.Sizes.{places, records};
+ghost use Rattle.interface.specs.Places.{Tables, objectTableWords, placeTableWords, shown};
+ghost use Rattle.interface.specs.Damage.{live-place};
+ghost use Rattle.soundness.specs.Keeping.{recordsIn, lowestFailing, firstRule, lastRule, ruleOf};
+use crate::places;
+use crate::records;
+use words::sizes;
+
+// The numbers of the first rule after that of lengths, and of the last.
+pub const FIRST_RULE: u32 = 2;
+
+pub const LAST_RULE: u32 = 12;
+
+// Whether a record keeps a rule.
+fn record_keeps_rule(rule: u32, objects: &[u32], number: u32) -> bool
+    requires { ⌜ (firstRule ≤ rule) × (rule ≤ lastRule) × (length (now objects) ≡ objectTableWords) × (number < records) ⌝ }
+    ensures { λ r. ⌜ r ≡ ruleOf rule .record-keeps (recordsIn (now (objects .entry))) number ⌝ }
+{
+    match rule {
+        2 => records::fixed_keeps(objects, number),
+        3 => records::interrupt_keeps(objects, number),
+        4 => records::unnamed_keeps(objects, number),
+        5 => records::used_first_keeps(objects, number),
+        6 => records::pd_keeps(objects, number, records::pds_below(objects, number)),
+        7 => records::ec_keeps(
+            objects,
+            number,
+            records::has_pd(objects, records::word_of(objects, number, 1)),
+        ),
+        8 => records::sc_keeps(objects, number),
+        9 => records::pt_keeps(objects, number),
+        _ => true,
+    }
+}
+
+// Rule 11, of a place that may be null.
+fn live_or_null(table: &[u32], objects: &[u32], place: u32) -> bool
+    requires { ⌜ (length (now table) ≡ placeTableWords) × (length (now objects) ≡ objectTableWords) × (place < places) ⌝ }
+    ensures { λ r. ⌜ r ≡ live-place (shown (record { places = now (table .entry); objects = now (objects .entry) })) place ⌝ }
+{
+    let cap = places::cap_at(table, place);
+    if cap.permissions == 0 {
+        return true;
+    }
+    let domain = place / sizes::STRIDE;
+    let home = (domain == 0) | records::has_pd(objects, domain);
+    places::live_keeps(table, objects, place, places::space_of(place), home, cap)
+}
+
+// Whether a place keeps a rule.
+fn place_keeps_rule(rule: u32, table: &[u32], objects: &[u32], place: u32) -> bool
+    requires { ⌜ (firstRule ≤ rule) × (rule ≤ lastRule) × (length (now table) ≡ placeTableWords) × (length (now objects) ≡ objectTableWords) × (place < places) ⌝ }
+    ensures { λ r. ⌜ r ≡ ruleOf rule .place-keeps (shown (record { places = now (table .entry); objects = now (objects .entry) })) place ⌝ }
+{
+    match rule {
+        2 => places::fixed_keeps(table, place),
+        10 => places::null_keeps(places::cap_at(table, place)),
+        11 => live_or_null(table, objects, place),
+        12 => places::cap_at(table, place).depth <= sizes::GREATEST_DEPTH,
+        _ => true,
+    }
+}
+
+// The lowest record that breaks a rule, and the number of records where none does.
+pub fn lowest_record(rule: u32, objects: &[u32]) -> u32
+    requires { ⌜ (firstRule ≤ rule) × (rule ≤ lastRule) × (length (now objects) ≡ objectTableWords) ⌝ }
+    ensures { λ r. ⌜ r ≡ lowestFailing records (ruleOf rule .record-keeps (recordsIn (now (objects .entry)))) ⌝ }
+{
+    let mut at: u32 = 0;
+    while at < sizes::RECORDS {
+        if !record_keeps_rule(rule, objects, at) {
+            return at;
+        }
+        at += 1;
+    }
+    at
+}
+
+// The lowest place that breaks a rule, and the number of places where none does.
+pub fn lowest_place(rule: u32, table: &[u32], objects: &[u32]) -> u32
+    requires { ⌜ (firstRule ≤ rule) × (rule ≤ lastRule) × (length (now table) ≡ placeTableWords) × (length (now objects) ≡ objectTableWords) ⌝ }
+    ensures { λ r. ⌜ r ≡ lowestFailing places (ruleOf rule .place-keeps (shown (record { places = now (table .entry); objects = now (objects .entry) }))) ⌝ }
+{
+    let mut at: u32 = 0;
+    while at < sizes::PLACES {
+        if !place_keeps_rule(rule, table, objects, at) {
+            return at;
+        }
+        at += 1;
+    }
+    at
+}
