@@ -82,7 +82,7 @@ handed-given s place source mask t e =
 -- Delegations in turn.
 
 -- steps that are all delegations from places that a domain may delegate from
-data OnlyGives (sender : ℕ) : List Effect → Type 0 where
+pub data OnlyGives (sender : ℕ) : List Effect → Type 0 where
   gives-none : OnlyGives sender []
   gives-more : (destination source mask : ℕ) {effects : List Effect} → OwnSource sender source → OnlyGives sender effects →
       OnlyGives sender (give destination source mask ∷ effects)
@@ -127,7 +127,7 @@ gives-append : {sender : ℕ} {xs ys : List Effect} → OnlyGives sender xs → 
 gives-append gives-none more = more
 gives-append (gives-more destination source mask own others) more = gives-more destination source mask own (gives-append others more)
 
-listed-gives : (sender n : ℕ) (destination source mask : ℕ → ℕ) → ((i : ℕ) → i < n → OwnSource sender (source i)) → OnlyGives sender (gives destination source mask n)
+pub listed-gives : (sender n : ℕ) (destination source mask : ℕ → ℕ) → ((i : ℕ) → i < n → OwnSource sender (source i)) → OnlyGives sender (gives destination source mask n)
 unfolding listed
 listed-gives sender zero destination source mask own = gives-none
 listed-gives sender (suc n) destination source mask own =
@@ -142,7 +142,7 @@ source-own sender second source e =
     (source-either sender second)
 
 -- an item's steps are delegations, and so are those of some items in turn
-delegate-gives : (s : State) (sender receiver second : ℕ) (match : Match) → MatchProper match → OnlyGives sender (delegateItem s sender receiver second match .effects)
+pub delegate-gives : (s : State) (sender receiver second : ℕ) (match : Match) → MatchProper match → OnlyGives sender (delegateItem s sender receiver second match .effects)
 unfolding delegateItem
 delegate-gives s sender receiver second (Neither reason) p = gives-none
 delegate-gives s sender receiver second (Both item window) p =
@@ -161,7 +161,7 @@ unfolding translateItem
 translate-gives s sender receiver (Neither reason) = gives-none
 translate-gives s sender receiver (Both item window) = gives-none
 
-item-gives : (s : State) (sender receiver : ℕ) (source target : List ℕ) (i : ℕ) → OnlyGives sender (itemOf s sender receiver source target i .effects)
+pub item-gives : (s : State) (sender receiver : ℕ) (source target : List ℕ) (i : ℕ) → OnlyGives sender (itemOf s sender receiver source target i .effects)
 unfolding itemOf
 item-gives s sender receiver source target i =
     let second = word source (secondAt i) in
@@ -173,7 +173,7 @@ item-gives s sender receiver source target i =
     (match-proper (reading from) (reading (word target delegateWindow)) (good-proper from) (good-proper (word target delegateWindow))))
     (translate-gives s sender receiver (matched-in translateWindow))
 
-carried-gives : (s : State) (sender receiver : ℕ) (source target : List ℕ) (n : ℕ) → OnlyGives sender (carried s sender receiver source target n .effects)
+pub carried-gives : (s : State) (sender receiver : ℕ) (source target : List ℕ) (n : ℕ) → OnlyGives sender (carried s sender receiver source target n .effects)
 unfolding carried
 carried-gives s sender receiver source target zero = gives-none
 carried-gives s sender receiver source target (suc i) =

@@ -29,7 +29,7 @@ tell-follows h c valid sound = notes-follow (effectsOf (rules (told h) c)) h val
 from-here : (events : List Event) (tables : Tables) (h : History) → tables ≡ tablesOf (told h) → Valid h → Sound (told h) →
     LentOut (tablesAfterAll tables events) (toldAll h events)
 unfolding tablesAfterAll tablesAfter toldAll tell
-from-here [] tables h e valid sound = subst (λ (t : Tables). LentOut t h) (sym e) (lent-out h valid sound range-back)
+from-here [] tables h e valid sound = subst (λ (t : Tables). LentOut t h) (sym e) (lent-out h valid sound)
 from-here (hypercalls c ∷ events) tables h e valid sound =
     let follows = tell-follows h c valid sound in
     from-here events (hypercallTables tables c) (tell h (hypercalls c))

@@ -19,9 +19,9 @@ use Rattle.interface.specs.Basics.{if_then_else_, any, gather}
 use Rattle.interface.specs.Places.{State, Tables, live, nothing, capAt, placeTable, objectTable, tablesOf, greatest, greatestOf, kindOf}
 use Rattle.interface.specs.Descriptors.{describe, reading}
 use Rattle.interface.specs.Effects.{cut, chain, ancestors, among, below, stripped, cutCaps, act, run}
-use Rattle.interface.specs.Verdicts.{Call, grant, replyOf}
+use Rattle.interface.specs.Verdicts.{Call, grant, replyOf, blockOf}
 use Rattle.interface.specs.Revoke.{revoke}
-use Rattle.interface.specs.Rules.{rule, hypercall, called, rules, after, judged, hypercallReply, hypercallTables}
+use Rattle.interface.specs.Rules.{hypercallBlock, rule, hypercall, called, rules, after, judged, hypercallReply, hypercallTables}
 use Rattle.interface.specs.Census.{descendants, counted, censusOf, census}
 use Rattle.interface.specs.History.{History, held, origins, told, heldAmong, note, heir, heirs, cameFrom}
 use Rattle.interface.specs.Demand.{wholeMask, RevokesBelow, LentOut}
@@ -180,23 +180,7 @@ module _ (h : History) (valid : Valid h) (sound : Sound (told h)) where
         le-ltb (length list) (length (heirs h place)) enough,
       )
 
-  module _ (range-back : (range : Range) → Proper range → reading (describe range) ≡ Good range) (place : ℕ) (c : Call) (revokes : RevokesBelow (told h) place c) where
-    abbrev one-range : Range
-    one-range = record { space = spaceOf place; base = selectorOf place; order = 0; mask = wholeMask }
-
-    one-proper : Proper one-range
-    one-proper =
-        record {
-          space-small = space-small place;
-          order-small = omega arith;
-          base-aligned = eq-eqb (selectorOf place % 1) 0 (omega arith);
-          ends-inside = omega (arith, selector-small place);
-          mask-small = omega arith;
-        }
-
-    is-one : reading (c .first) ≡ Good one-range
-    is-one = ap reading (revokes .descriptor) ∙ range-back one-range one-proper
-
+  module _ (place : ℕ) (c : Call) (revokes : RevokesBelow (told h) place c) where
     is-rule : hypercall (c .number) ≡ rule revoke
     unfolding hypercall
     is-rule = rw (revokes .is-revoke)
@@ -210,7 +194,7 @@ module _ (h : History) (valid : Valid h) (sound : Sound (told h)) where
           is-rule,
           revokes .by-ec,
           revokes .without-self,
-          is-one,
+          revokes .descriptor,
           revokes .of-domain,
           made-so place,
         )
@@ -256,19 +240,24 @@ module _ (h : History) (valid : Valid h) (sound : Sound (told h)) where
         (hypercallReply (tablesOf (told h)) c ≡ Success 0) ×
         ((other : ℕ) → other < places →
         capAt (hypercallTables (tablesOf (told h)) c .places) other ≡ (if heir h place other then nothing else capAt (placeTable (told h)) other)) ×
-        (hypercallTables (tablesOf (told h)) c .objects ≡ objectTable (told h))
+        (hypercallTables (tablesOf (told h)) c .objects ≡ objectTable (told h)) ×
+        (hypercallBlock (tablesOf (told h)) c ≡ c .target)
     revoke-of t = (
       reply-of,
       (λ other l.
           rw (tables-of, cap-of other) (shown-cap revoked-state revoked-ends other ∙ caps-of other l t)),
       ap (λ (x : Tables). x .objects) tables-of ∙ objects-of,
+      ap (blockOf (c .target)) (judged-shown h valid c ∙ granted),
     )
 
   -- demand 3 at the tables of a history
-  pub lent-out : ((range : Range) → Proper range → reading (describe range) ≡ Good range) → LentOut (tablesOf (told h)) h
-  lent-out range-back =
+  pub lent-out : LentOut (tablesOf (told h)) h
+  lent-out =
       record {
+        same-state = refl;
         live-held = lives-held;
         census-exact = λ place l t list enough. census-shown place list ∙ census-of place l (rw (cap-of place) at t) list enough;
-        revoke-exact = λ place l t c revokes. revoke-of range-back place c revokes (rw (cap-of place) at t);
+        revoke-exact =
+            λ place l t c revokes.
+            revoke-of place c (subst (λ (s : State). RevokesBelow s place c) (shown-tables (told h) (told-ends h valid)) revokes) (rw (cap-of place) at t);
       }

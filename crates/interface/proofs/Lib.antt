@@ -32,3 +32,5 @@ pub mod VerdictLaws
 pub mod LookupLaws
 pub mod DelegationLaws
 pub mod RevocationLaws
+pub mod TransferLaws
+pub mod GrantLaws

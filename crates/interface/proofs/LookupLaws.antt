@@ -18,17 +18,14 @@ use Rattle.interface.specs.Descriptors.{reading, malformed}
 use Rattle.interface.specs.Verdicts.{grant, callerDomain}
 use Rattle.interface.specs.Lookup.{uniform, largest, around, spaceCaps, found, lookup}
 use Rattle.interface.specs.Rules.{hypercall}
-use Rattle.interface.specs.Consequences.{namesNothing, LargestOrder, NothingIsNothing}
-use Rattle.interface.proofs.BoolLaws.{cases, and-left, and-right}
+use Rattle.interface.specs.Consequences.{namesNothing, Even, LargestOrder, NothingIsNothing}
+use Rattle.interface.proofs.BoolLaws.{cases, not-both, and-left, and-right}
 use Rattle.interface.proofs.BelowLaws.{below-suc, all-below-at, all-below}
 use Rattle.interface.proofs.VerdictLaws.{required, rule-grants}
 
 module _ (caps : ℕ → Cap) (selector : ℕ) where
   -- what a uniform range of an order tells of each of its places
-  uniform-at : (order : ℕ) → uniform caps selector order ≡ true → (i : ℕ) → i < 2 ^ order →
-      (live (caps (rounded order selector + i)) ≡ true) ×
-      (caps (rounded order selector + i) .permissions ≡ caps selector .permissions) ×
-      (caps (rounded order selector + i) .resource ≡ caps (rounded order selector) .resource + i)
+  uniform-at : (order : ℕ) → uniform caps selector order ≡ true → Even caps selector order
   unfolding uniform
   uniform-at order u i l =
       let base = rounded order selector in
@@ -41,6 +38,20 @@ module _ (caps : ℕ → Cap) (selector : ℕ) where
         eqb-true (caps (base + i) .permissions) (caps selector .permissions) (and-right (a i) (b i) first-two),
         eqb-true (caps (base + i) .resource) (caps base .resource + i) (and-right (a i && b i) (d i) all-three),
       )
+
+  -- and back
+  even-uniform : (order : ℕ) → Even caps selector order → uniform caps selector order ≡ true
+  unfolding uniform
+  even-uniform order even =
+      let base = rounded order selector in
+      all-below (2 ^ order) _
+      (λ i l.
+      let at = even i l in
+      rw (
+        at .0,
+        eq-eqb (caps (base + i) .permissions) (caps selector .permissions) (at .1),
+        eq-eqb (caps (base + i) .resource) (caps base .resource + i) (at .2),
+      ))
 
   -- a live place alone is uniform
   uniform-one : live (caps selector) ≡ true → uniform caps selector 0 ≡ true
@@ -90,7 +101,10 @@ module _ (s : State) (domain : ℕ) (range : Range) where
       record {
         order-small = largest-small caps (range .base) (greatestOrder (range .space));
         all-live = uniform-at caps (range .base) order-found (largest-uniform caps (range .base) l (greatestOrder (range .space)));
-        no-larger = past-largest caps (range .base) (greatestOrder (range .space));
+        no-larger =
+            λ larger past small even.
+            not-both (uniform caps (range .base) larger) (even-uniform caps (range .base) larger even)
+            (past-largest caps (range .base) (greatestOrder (range .space)) larger past small);
       }
 
 -- nothing is found exactly for a descriptor that names nothing

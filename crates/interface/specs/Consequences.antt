@@ -3,7 +3,7 @@ use Prim.Native.Nat.{ℕ, _+_, _^_, _≤_, _<_}
 use mathlib.Core.Path.{_≡_}
 use mathlib.Core.Logic.{_↔_, _⊎_}
 use mathlib.Core.Bool.{Bool, true, false, not, _||_, _&&_}
-use mathlib.Core.List.{List, _∷_}
+use mathlib.Core.List.{List, [], _∷_}
 use lib.Dec.{eqb}
 use Rattle.words.specs.Sizes.{placeOf, domainOf, greatestOrder}
 use Rattle.words.specs.Permissions.{within}
@@ -14,13 +14,13 @@ use Rattle.descriptor.specs.declared.Reading.{Reading}
 use Rattle.descriptor.specs.declared.Reading.the-variants.{Null, Malformed, Good}
 use Rattle.descriptor.specs.declared.Reply.the-variants.{Damaged}
 use Rattle.interface.specs.Basics.{if_then_else_}
-use Rattle.interface.specs.Places.{State, Tables, live, tablesOf}
+use Rattle.interface.specs.Places.{Cap, State, Tables, live, tablesOf}
 use Rattle.interface.specs.Boot.{boot, hypervisor, root}
-use Rattle.interface.specs.Damage.{sound}
-use Rattle.interface.specs.Descriptors.{describe, reading}
+use Rattle.interface.specs.Damage.{soundState, sound, isEc}
+use Rattle.interface.specs.Descriptors.{describe, reading, malformed}
 use Rattle.interface.specs.Effects.{Effect, give, among, below, stripped}
 use Rattle.interface.specs.Verdicts.{Call, CALL, REVOKE, LOOKUP, callerDomain, grant, effectsOf}
-use Rattle.interface.specs.Lookup.{uniform, spaceCaps}
+use Rattle.interface.specs.Lookup.{spaceCaps}
 use Rattle.interface.specs.Rules.{rules, after, hypercallReply, hypercallBlock, hypercallTables}
 use Rattle.interface.specs.Census.{census}
 use Rattle.interface.specs.History.{Event}
@@ -49,15 +49,18 @@ namesNothing s domain Null = true
 namesNothing s domain Malformed = false
 namesNothing s domain (Good range) = not (live (s .caps (placeOf domain (range .space) (range .base))))
 
--- the order of the range that LOOKUP answers: its places are all live, with equal permissions and resources rising by one, and no larger aligned range around the base would do
+-- the places of the aligned range of an order around a selector are all live, with equal permissions and resources rising by one
+abbrev pub Even : (ℕ → Cap) → ℕ → ℕ → Type 0
+Even cap selector order =
+    (i : ℕ) → i < 2 ^ order →
+    let base = rounded order selector in
+    (live (cap (base + i)) ≡ true) × (cap (base + i) .permissions ≡ cap selector .permissions) × (cap (base + i) .resource ≡ cap base .resource + i)
+
+-- the order of the range that LOOKUP answers: it is even so, and no larger aligned range around the base is
 pub record LargestOrder (s : State) (domain : ℕ) (range : Range) (order : ℕ) : Type 0 where
   pub order-small : order ≤ greatestOrder (range .space)
-  pub all-live : (i : ℕ) → i < 2 ^ order →
-      let base = rounded order (range .base) in
-      let cap = spaceCaps s domain (range .space) in
-      (live (cap (base + i)) ≡ true) × (cap (base + i) .permissions ≡ cap (range .base) .permissions) × (cap (base + i) .resource ≡ cap base .resource + i)
-  pub no-larger : (larger : ℕ) → order < larger → larger ≤ greatestOrder (range .space) →
-      uniform (spaceCaps s domain (range .space)) (range .base) larger ≡ false
+  pub all-live : Even (spaceCaps s domain (range .space)) (range .base) order
+  pub no-larger : (larger : ℕ) → order < larger → larger ≤ greatestOrder (range .space) → Even (spaceCaps s domain (range .space)) (range .base) larger → ⊥
 
 -- A selector that holds nothing is reported as nothing: a LOOKUP that is not refused answers 0 exactly when its descriptor names nothing, and otherwise the largest range
 abbrev pub NothingIsNothing : Type 0
@@ -74,6 +77,13 @@ NothingIsNothing =
       order = order;
       mask = s .caps (placeOf (callerDomain s c) (range .space) (range .base)) .permissions;
     })))
+
+-- LOOKUP and REVOKE on a sound state by an EC are refused for no other reason than the manual's: a malformed descriptor, or REVOKE's self word above 1
+pub record GrantedWhereDue : Type 0 where
+  pub lookup-granted : (s : State) (c : Call) → soundState s ≡ true → isEc s (c .caller) ≡ true → c .number ≡ LOOKUP → malformed (reading (c .first)) ≡ false →
+      (answer : ℕ) × (rules s c ≡ grant answer [] (c .target))
+  pub revoke-granted : (s : State) (c : Call) → soundState s ≡ true → isEc s (c .caller) ≡ true → c .number ≡ REVOKE → c .second ≤ 1 →
+      malformed (reading (c .first)) ≡ false → (effects : List Effect) × (rules s c ≡ grant 0 effects (c .target))
 
 -- a step of a list that delegates to a place
 pub data Delegates (destination source mask : ℕ) : List Effect → Type 0 where

@@ -6,14 +6,16 @@ use mathlib.Core.List.{List, [], _∷_, _++_}
 use lib.Dec.{ltb}
 use lib.ListN.{length, drop}
 use Rattle.words.specs.Sizes.{domainOf, spaceOf, selectorOf, places}
+use Rattle.descriptor.specs.declared.Range.{Range}
+use Rattle.descriptor.specs.declared.Reading.the-variants.{Good}
 use Rattle.descriptor.specs.declared.Reply.the-variants.{Success}
 use Rattle.interface.specs.Basics.{if_then_else_}
-use Rattle.interface.specs.Places.{State, Tables, live, nothing, domainWord, capAt, tablesOf}
+use Rattle.interface.specs.Places.{State, Tables, live, nothing, domainWord, capAt, tablesOf, shown}
 use Rattle.interface.specs.Boot.{boot}
 use Rattle.interface.specs.Damage.{isEc}
-use Rattle.interface.specs.Descriptors.{describe}
+use Rattle.interface.specs.Descriptors.{reading}
 use Rattle.interface.specs.Verdicts.{Call, REVOKE}
-use Rattle.interface.specs.Rules.{hypercallReply, hypercallTables}
+use Rattle.interface.specs.Rules.{hypercallReply, hypercallBlock, hypercallTables}
 use Rattle.interface.specs.Census.{census}
 use Rattle.interface.specs.History.{History, Event, hypercalls, counts, held, told, heir, heirs, bootHistory, toldAll}
 
@@ -30,30 +32,33 @@ tablesAfterAll tables (event ∷ events) = tablesAfterAll (tablesAfter tables ev
 abbrev pub wholeMask : ℕ
 wholeMask = 31
 
--- the descriptor of a single place with all mask bits
-abbrev pub onePlace : ℕ → ℕ
-onePlace place = describe (record { space = spaceOf place; base = selectorOf place; order = 0; mask = wholeMask })
+-- the range that is a single place, with all mask bits
+abbrev pub onePlace : ℕ → Range
+onePlace place = record { space = spaceOf place; base = selectorOf place; order = 0; mask = wholeMask }
 
--- a REVOKE of everything below a place, by an EC of its domain: order 0, all mask bits, self 0; its other words and its blocks are any
+-- a REVOKE of everything below a place, by an EC of its domain: order 0, all mask bits, self 0, by any descriptor that is read so; its other words and its blocks are any
 pub record RevokesBelow (s : State) (place : ℕ) (c : Call) : Type 0 where
   pub is-revoke : c .number ≡ REVOKE
   pub by-ec : isEc s (c .caller) ≡ true
   pub of-domain : s .objects (c .caller) domainWord ≡ domainOf place
-  pub descriptor : c .first ≡ onePlace place
+  pub descriptor : reading (c .first) ≡ Good (onePlace place)
   pub without-self : c .second ≡ 0
 
 -- what tables and a history say of each other
 pub record LentOut (tables : Tables) (h : History) : Type 0 where
+  -- the tables are those of the history's state, the objects among them
+  pub same-state : tables ≡ tablesOf (told h)
   -- a place is live exactly when it holds a filling
   pub live-held : (place : ℕ) → place < places → live (capAt (tables .places) place) ≡ ltb 0 (held h place)
   -- the census of a live place, given a word for each heir or more, succeeds with their number; its first words are the heirs, and its others stay
   pub census-exact : (place : ℕ) → place < places → live (capAt (tables .places) place) ≡ true → (list : List ℕ) → length (heirs h place) ≤ length list →
       census tables place list ≡ record { reply = Success (length (heirs h place)); list = heirs h place ++ drop (length (heirs h place)) list }
-  -- revoking everything below a live place succeeds, makes exactly the heirs null, and leaves every other place's words and every object alone
-  pub revoke-exact : (place : ℕ) → place < places → live (capAt (tables .places) place) ≡ true → (c : Call) → RevokesBelow (told h) place c →
+  -- revoking everything below a live place succeeds, makes exactly the heirs null, and leaves every other place's words, every object and the block alone
+  pub revoke-exact : (place : ℕ) → place < places → live (capAt (tables .places) place) ≡ true → (c : Call) → RevokesBelow (shown tables) place c →
       (hypercallReply tables c ≡ Success 0) ×
       ((other : ℕ) → other < places → capAt (hypercallTables tables c .places) other ≡ (if heir h place other then nothing else capAt (tables .places) other)) ×
-      (hypercallTables tables c .objects ≡ tables .objects)
+      (hypercallTables tables c .objects ≡ tables .objects) ×
+      (hypercallBlock tables c ≡ c .target)
 
 -- Demand 3: after any events from boot
 abbrev pub Demand3 : Type 0

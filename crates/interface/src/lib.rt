@@ -1,6 +1,6 @@
 // The interface as definitions (specs/) and what is proved of them: each function here promises one statement and does nothing, so that its proof is the
 // statement's.
-ghost use Rattle.interface.specs.Consequences.{StaysSound, DamagedExactly, RefusedStays, NothingIsNothing, AddsNoPermission, RevokesExactly};
+ghost use Rattle.interface.specs.Consequences.{StaysSound, DamagedExactly, RefusedStays, NothingIsNothing, GrantedWhereDue, AddsNoPermission, RevokesExactly};
 ghost use Rattle.interface.specs.Demand.{Demand3};
 ghost use Rattle.interface.specs.Examples.{WorkedExamples, JournalExample};
 
@@ -27,6 +27,11 @@ pub fn refused_stays()
 // A selector that holds nothing is reported as nothing, and any other by the largest range around it.
 pub fn nothing_is_nothing()
     ensures { λ r. ⌜ NothingIsNothing ⌝ }
+{}
+
+// LOOKUP and REVOKE are refused for no other reason than the manual's.
+pub fn granted_where_due()
+    ensures { λ r. ⌜ GrantedWhereDue ⌝ }
 {}
 
 // Delegation adds no permission.

@@ -12,5 +12,5 @@ use Rattle.kernel.specs.declared.Admitted.the-variants.{Ec, Refused}
 unfoldable pub admission : List ℕ → List ℕ → ℕ → Admitted
 admission places objects caller =
     if sound (tables places objects) then
-      (if isEc (view places objects) caller then Ec (record { 0 = caller }) else Refused BadCaller)
+    (if isEc (view places objects) caller then Ec (record { 0 = caller }) else Refused BadCaller)
     else Refused Damaged

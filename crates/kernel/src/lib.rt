@@ -52,7 +52,13 @@ pub fn lookup(caller: u32, descriptor: u32, places: &[u32], objects: &[u32]) -> 
 }
 
 // SM_CTRL: counts a semaphore up or down.
-pub fn sm_ctrl(caller: u32, selector: u32, operation: u32, places: &[u32], objects: &mut [u32]) -> Reply
+pub fn sm_ctrl(
+    caller: u32,
+    selector: u32,
+    operation: u32,
+    places: &[u32],
+    objects: &mut [u32],
+) -> Reply
     ensures { λ r. ⌜ ((c : Call) → c .number ≡ SM-CTRL → c .caller ≡ caller → c .first ≡ selector → c .second ≡ operation → Answers c (now (places .entry)) (now (objects .entry)) (now (places .entry)) (now (objects .exit)) r) ⌝ }
 {
     let admitted = admit(caller, places, objects);
@@ -63,7 +69,13 @@ pub fn sm_ctrl(caller: u32, selector: u32, operation: u32, places: &[u32], objec
 }
 
 // REVOKE: removes a mask's permissions from every strict descendant of a range, and from the range too if asked.
-pub fn revoke(caller: u32, descriptor: u32, self_word: u32, places: &mut [u32], objects: &[u32]) -> Reply
+pub fn revoke(
+    caller: u32,
+    descriptor: u32,
+    self_word: u32,
+    places: &mut [u32],
+    objects: &[u32],
+) -> Reply
     ensures { λ r. ⌜ ((c : Call) → c .number ≡ REVOKE → c .caller ≡ caller → c .first ≡ descriptor → c .second ≡ «self_word» → Answers c (now (places .entry)) (now (objects .entry)) (now (places .exit)) (now (objects .entry)) r) ⌝ }
 {
     let admitted = admit(caller, places, objects);
@@ -74,7 +86,14 @@ pub fn revoke(caller: u32, descriptor: u32, self_word: u32, places: &mut [u32], 
 }
 
 // CREATE_PD: new selector, PD selector, initial descriptor. The new PD takes the next domain, which first gets the initial range.
-pub fn create_pd(caller: u32, selector: u32, pd: u32, initial: u32, places: &mut [u32], objects: &mut [u32]) -> Reply
+pub fn create_pd(
+    caller: u32,
+    selector: u32,
+    pd: u32,
+    initial: u32,
+    places: &mut [u32],
+    objects: &mut [u32],
+) -> Reply
     ensures { λ r. ⌜ ((c : Call) → c .number ≡ CREATE-PD → c .caller ≡ caller → c .first ≡ selector → c .second ≡ pd → c .third ≡ initial → Answers c (now (places .entry)) (now (objects .entry)) (now (places .exit)) (now (objects .exit)) r) ⌝ }
 {
     let admitted = admit(caller, places, objects);
@@ -85,40 +104,99 @@ pub fn create_pd(caller: u32, selector: u32, pd: u32, initial: u32, places: &mut
 }
 
 // CREATE_EC: new selector, PD selector, CPU, event base.
-pub fn create_ec(caller: u32, selector: u32, pd: u32, cpu: u32, event_base: u32, places: &mut [u32], objects: &mut [u32]) -> Reply
+pub fn create_ec(
+    caller: u32,
+    selector: u32,
+    pd: u32,
+    cpu: u32,
+    event_base: u32,
+    places: &mut [u32],
+    objects: &mut [u32],
+) -> Reply
     ensures { λ r. ⌜ ((c : Call) → c .number ≡ CREATE-EC → c .caller ≡ caller → c .first ≡ selector → c .second ≡ pd → c .third ≡ cpu → c .fourth ≡ «event_base» → Answers c (now (places .entry)) (now (objects .entry)) (now (places .exit)) (now (objects .exit)) r) ⌝ }
 {
     let admitted = admit(caller, places, objects);
     match admitted {
         Admitted::Refused(reply) => reply,
-        Admitted::Ec(ec) => creations::create_ec(ec, selector, pd, cpu, event_base, places, objects),
+        Admitted::Ec(ec) => creations::create_ec(
+            ec,
+            selector,
+            pd,
+            cpu,
+            event_base,
+            places,
+            objects,
+        ),
     }
 }
 
 // CREATE_SC: new selector, PD selector, EC selector, QPD.
-pub fn create_sc(caller: u32, selector: u32, pd: u32, ec_selector: u32, qpd: u32, places: &mut [u32], objects: &mut [u32]) -> Reply
+pub fn create_sc(
+    caller: u32,
+    selector: u32,
+    pd: u32,
+    ec_selector: u32,
+    qpd: u32,
+    places: &mut [u32],
+    objects: &mut [u32],
+) -> Reply
     ensures { λ r. ⌜ ((c : Call) → c .number ≡ CREATE-SC → c .caller ≡ caller → c .first ≡ selector → c .second ≡ pd → c .third ≡ «ec_selector» → c .fourth ≡ qpd → Answers c (now (places .entry)) (now (objects .entry)) (now (places .exit)) (now (objects .exit)) r) ⌝ }
 {
     let admitted = admit(caller, places, objects);
     match admitted {
         Admitted::Refused(reply) => reply,
-        Admitted::Ec(ec) => creations::create_sc(ec, selector, pd, ec_selector, qpd, places, objects),
+        Admitted::Ec(ec) => creations::create_sc(
+            ec,
+            selector,
+            pd,
+            ec_selector,
+            qpd,
+            places,
+            objects,
+        ),
     }
 }
 
 // CREATE_PT: new selector, PD selector, EC selector, MTD, entry IP, identifier.
-pub fn create_pt(caller: u32, selector: u32, pd: u32, ec_selector: u32, mtd: u32, ip: u32, identifier: u32, places: &mut [u32], objects: &mut [u32]) -> Reply
+pub fn create_pt(
+    caller: u32,
+    selector: u32,
+    pd: u32,
+    ec_selector: u32,
+    mtd: u32,
+    ip: u32,
+    identifier: u32,
+    places: &mut [u32],
+    objects: &mut [u32],
+) -> Reply
     ensures { λ r. ⌜ ((c : Call) → c .number ≡ CREATE-PT → c .caller ≡ caller → c .first ≡ selector → c .second ≡ pd → c .third ≡ «ec_selector» → c .fourth ≡ mtd → c .fifth ≡ ip → c .sixth ≡ identifier → Answers c (now (places .entry)) (now (objects .entry)) (now (places .exit)) (now (objects .exit)) r) ⌝ }
 {
     let admitted = admit(caller, places, objects);
     match admitted {
         Admitted::Refused(reply) => reply,
-        Admitted::Ec(ec) => creations::create_pt(ec, selector, pd, ec_selector, mtd, ip, identifier, places, objects),
+        Admitted::Ec(ec) => creations::create_pt(
+            ec,
+            selector,
+            pd,
+            ec_selector,
+            mtd,
+            ip,
+            identifier,
+            places,
+            objects,
+        ),
     }
 }
 
 // CREATE_SM: new selector, PD selector, count.
-pub fn create_sm(caller: u32, selector: u32, pd: u32, count: u32, places: &mut [u32], objects: &mut [u32]) -> Reply
+pub fn create_sm(
+    caller: u32,
+    selector: u32,
+    pd: u32,
+    count: u32,
+    places: &mut [u32],
+    objects: &mut [u32],
+) -> Reply
     ensures { λ r. ⌜ ((c : Call) → c .number ≡ CREATE-SM → c .caller ≡ caller → c .first ≡ selector → c .second ≡ pd → c .third ≡ count → Answers c (now (places .entry)) (now (objects .entry)) (now (places .exit)) (now (objects .exit)) r) ⌝ }
 {
     let admitted = admit(caller, places, objects);

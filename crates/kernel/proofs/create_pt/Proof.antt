@@ -34,7 +34,7 @@ same-length-4 : tie.Need-same-length-4
 same-length-4 c = search needs
 
 returns-2 : tie.Need-returns-2
-returns-2 c call is-number is-caller is-first is-second is-third is-fourth is-fifth is-sixth = 
+returns-2 c call is-number is-caller is-first is-second is-third is-fourth is-fifth is-sixth =
     admitted-answers _ _ _ _ (sym (c .before .before .before .before .before .before .before .before .before .before .admit .ensures) ∙ c .before .before .before .before .before .before .before .before .admitted2 .given .1) createPt call (is-create-pt _ is-number) is-caller _ _ _
     (λ by. c .before .before .before .before .create-pt .ensures call by is-first is-second is-third is-fourth is-fifth is-sixth)
 

@@ -22,7 +22,7 @@ returns : tie.Need-returns
 returns c call is-number is-caller is-first = not-admitted _ _ _ lookup call (is-lookup _ is-number) is-caller _ (sym (c .before .before .before .admit .ensures) ∙ c .before .admitted .given .1)
 
 returns-2 : tie.Need-returns-2
-returns-2 c call is-number is-caller is-first = 
+returns-2 c call is-number is-caller is-first =
     let e = sym (c .before .before .before .before .admit .ensures) ∙ c .before .before .admitted2 .given .1 in
     admitted-answers _ _ _ _ e lookup call (is-lookup _ is-number) is-caller _ _ _
     (λ by. lookup-runs _ _ _ call _ (admitted-ec _ _ _ _ e) (c .look-up .ensures call by is-first))

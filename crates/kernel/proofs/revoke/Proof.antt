@@ -28,7 +28,7 @@ same-length-2 : tie.Need-same-length-2
 same-length-2 c = search needs
 
 returns-2 : tie.Need-returns-2
-returns-2 c call is-number is-caller is-first is-second = 
+returns-2 c call is-number is-caller is-first is-second =
     admitted-answers _ _ _ _ (sym (c .before .before .before .before .before .before .before .admit .ensures) ∙ c .before .before .before .before .before .admitted2 .given .1) revoke call (is-revoke _ is-number) is-caller _ _ _
     (λ by. c .before .before .revoke .ensures call by is-first is-second)
 

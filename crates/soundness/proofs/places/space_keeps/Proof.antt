@@ -39,7 +39,10 @@ loop-holds : tie.Need-loop-holds Inv-loop μ-loop
 loop-holds c = search needs
 
 place-keeps-requires : tie.Need-place-keeps-requires Inv-loop μ-loop
-place-keeps-requires c κs = search (around-there, needs)
+place-keeps-requires c κs = let start = c .before .before .before .before in (
+  around-there (start .args .number) (c .before .loop .at) (omega arith) (omega arith) _ (start .pre .0) (start .pre .1) (start .pre .2) (start .pre .3),
+  omega arith,
+)
 
 returns : tie.Need-returns Inv-loop μ-loop
 returns c = search (all-below-broken, needs)
