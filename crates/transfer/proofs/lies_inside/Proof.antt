@@ -1,0 +1,60 @@
+-- The tests are the definition's.
+use Prim.Native.Nat.{_^_}
+use mathlib.Core.Path.{_≡_}
+use native.Mathlib.Nat.{add-zero}
+use native.Mathlib.Omega.{arith}
+use lib.Pow.{pow-pos}
+use borrow.Author.Needs.{needs}
+use Rattle.transfer.proofs.lies_inside.Statement.{statement}
+use Rattle.transfer.proofs.lies_inside.Tie as tie
+
+at-requires : tie.Need-at-requires
+at-requires c κs = (c .pre .2, pow-pos (c .args .window .order))
+
+number-requires : tie.Need-number-requires
+number-requires c κs = search needs
+
+order-requires : tie.Need-order-requires
+order-requires c κs = search needs
+
+size-requires : tie.Need-size-requires
+size-requires c κs = search needs
+
+add-end : tie.Need-add-end
+add-end c = let size : c .size .result ≡ 2 ^ c .before .before .before .before .args .window .order = rw (c .before .order .ensures) at (c .size .ensures) in
+    omega (arith, c .before .before .before .before .pre .2 .ends-inside)
+
+is-aligned-requires : tie.Need-is-aligned-requires
+is-aligned-requires c κs = search needs
+
+size-requires-2 : tie.Need-size-requires-2
+size-requires-2 c κs = search needs
+
+add-result : tie.Need-add-result
+add-result c = omega arith
+
+returns : tie.Need-returns
+returns c = let started = c .before .before .before .before in
+    rw (
+      c .before .is-aligned .ensures,
+      c .size2 .ensures,
+      c .before .before .size .ensures,
+      c .before .before .before .order .ensures,
+      started .number .ensures,
+      started .before .at .ensures .0,
+      add-zero,
+    )
+
+pub lies-inside-spec : {M : Type 1} → statement M
+lies-inside-spec =
+    tie.close
+    (tie.spec
+    at-requires
+    number-requires
+    order-requires
+    size-requires
+    add-end
+    is-aligned-requires
+    size-requires-2
+    add-result
+    returns)
