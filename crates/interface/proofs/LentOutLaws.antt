@@ -131,7 +131,7 @@ greatest-small space kind =
     (λ (m : eqb space memory ≡ false).
     cases (eqb space io) (λ (i : eqb space io ≡ true). rw (m, i) (omega arith)) (λ (i : eqb space io ≡ false). rw (m, i) (greatest-kind kind)))
 
-permissions-small : (s : State) (p : ℕ) → Sound s → p < places → s .caps p .permissions < 2 ^ 5
+pub permissions-small : (s : State) (p : ℕ) → Sound s → p < places → s .caps p .permissions < 2 ^ 5
 permissions-small s p sound l =
     cases (live (s .caps p))
     (λ (t : live (s .caps p) ≡ true).

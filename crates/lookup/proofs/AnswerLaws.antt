@@ -1,14 +1,11 @@
 -- What LOOKUP answers: the range around a base, and the reply to each reading of a descriptor.
-use Prim.Native.Nat.{ℕ, zero, suc, _+_, _^_, _≤_, _<_}
+use Prim.Native.Nat.{ℕ, _+_, _^_, _≤_, _<_}
 use mathlib.Core.Path.{_≡_, _∙_}
 use mathlib.Core.Bool.{true, false}
 use mathlib.Core.List.{List}
 use native.Mathlib.Omega.{arith}
-use lib.Dec.{eqb}
 use lib.Pow.{pow-pos}
-use borrow.Author.Tests.{ltb-false}
-use Rattle.words.specs.Sizes.{memory, io, selectors, greatestOrder, placeOf, spaceOf, selectorOf}
-use Rattle.words.specs.Sizes.{places as placeCount}
+use Rattle.words.specs.Sizes.{selectors, greatestOrder, placeOf, spaceOf, selectorOf}
 use Rattle.words.specs.Ranges.{rounded}
 use Rattle.words.proofs.RangeLaws.{aligned-divides, size-divides, rounded-divides, multiples-apart}
 use Rattle.words.proofs.PlaceLaws.{selector-back}
@@ -16,13 +13,9 @@ use Rattle.descriptor.specs.declared.Range.{Range}
 use Rattle.descriptor.specs.declared.Reading.the-variants.{Null, Malformed, Good}
 use Rattle.descriptor.specs.declared.Reply.the-variants.{Success, BadPar}
 use Rattle.descriptor.specs.Descriptors.{Proper, describe, reading}
-use Rattle.interface.specs.Basics.{if_then_else_}
-use Rattle.interface.specs.Places.{Cap, State, live, domainWord, capAt, greatestOf, greatest, kindOf}
+use Rattle.interface.specs.Places.{Cap, State, live, domainWord, capAt}
 use Rattle.interface.specs.Verdicts.{Call, replyOf}
 use Rattle.interface.specs.Lookup.{largest, around, found, lookup}
-use Rattle.interface.proofs.BoolLaws.{cases, either-way}
-use Rattle.interface.proofs.Soundness.{Sound}
-use Rattle.interface.proofs.PlaceFacts.{live-facts}
 use Rattle.capabilities.specs.Callers.{view}
 use Rattle.lookup.proofs.SpaceLaws.{rounded-place, largest-space}
 
@@ -81,28 +74,6 @@ module _ {places : List ℕ} {domain place : ℕ} {range : Range} {cap : Cap} (b
         ∙ largest-space domain (range .space) (range .base) (capAt places) (greatestOrder (range .space)) (omega arith)
         in
         rw (at-base, ← is-largest, is-answer, is-space, is-selector, first-selector, base .is-cap, base .is-place)
-
--- the permissions at a place of sound tables fit a descriptor's mask
-greatest-kind : (kind : ℕ) → greatestOf kind < 2 ^ 5
-greatest-kind zero = omega arith
-greatest-kind (suc zero) = omega arith
-greatest-kind (suc (suc zero)) = omega arith
-greatest-kind (suc (suc (suc zero))) = omega arith
-greatest-kind (suc (suc (suc (suc zero)))) = omega arith
-greatest-kind (suc (suc (suc (suc (suc zero))))) = omega arith
-greatest-kind (suc (suc (suc (suc (suc (suc kind)))))) = omega arith
-
-greatest-small : (space kind : ℕ) → greatest space kind < 2 ^ 5
-greatest-small space kind =
-    either-way (λ (most : ℕ). most < 2 ^ 5) (eqb space memory) 7 (if eqb space io then 1 else greatestOf kind) (omega arith)
-    (either-way (λ (most : ℕ). most < 2 ^ 5) (eqb space io) 1 (greatestOf kind) (omega arith) (greatest-kind kind))
-
-pub permissions-small : (s : State) (p : ℕ) → Sound s → p < placeCount → s .caps p .permissions < 2 ^ 5
-permissions-small s p sound l =
-    cases (live (s .caps p))
-    (λ (t : live (s .caps p) ≡ true).
-    omega (arith, live-facts s p (sound .lives p l) t .bounded, greatest-small (spaceOf p) (kindOf s (s .caps p .resource))))
-    (λ (f : live (s .caps p) ≡ false). omega (arith, ltb-false 0 (s .caps p .permissions) f))
 
 -- the reply to each reading of a descriptor
 module _ (s : State) {descriptor : ℕ} where
