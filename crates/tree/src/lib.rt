@@ -1,7 +1,7 @@
 // Walks along parent links: the nearest ancestor among some places, revocation, and the census.
 ghost use mathlib.Core.Path.{_≡_};
 ghost use Prim.Native.Nat.{_+_, _<_, _≤_};
-ghost use mathlib.Core.List.{_++_};
+ghost use mathlib.Core.List.{_∷_, _++_};
 ghost use lib.ListN.{length, drop};
 ghost use Rattle.words.specs.Sizes.{places};
 ghost use Rattle.interface.specs.Basics.{listed, put};
@@ -49,12 +49,12 @@ fn marks(table: &[u32], first: u32, size: u32, self_too: bool) -> [bool; 1536]
     ensures { λ r. ⌜ r ≡ listed places (cutAt (capAt (now (table .entry))) first size «self_too») ⌝ }
 {
     let mut marked = [false; 1536];
-    let mut number = 0u32;
-    while number < sizes::PLACES {
-        let among = (first <= number) & (number < first + size);
-        marked[number as usize] = is_below(table, Place::nth(number), first, size)
+    let mut walked = 0u32;
+    while walked < sizes::PLACES {
+        let among = (first <= walked) & (walked < first + size);
+        marked[walked as usize] = is_below(table, Place::nth(walked), first, size)
             | (self_too & among);
-        number += 1;
+        walked += 1;
     }
     marked
 }

@@ -1,4 +1,4 @@
--- The marks of the places below the loop's number are those of the definition.
+-- The marks of the places below the one walked from are those of the definition.
 use Prim.Native.Nat.{_-_, _≤_}
 use mathlib.Core.Path.{refl}
 use native.Mathlib.Omega.{arith}
@@ -11,11 +11,11 @@ use Rattle.tree.proofs.marks.Statement.{statement}
 use Rattle.tree.proofs.marks.Tie as tie
 
 abbrev Inv-loop : tie.InvT-loop
-Inv-loop table first size self-too marked₀ number₀ marked number =
-    (number ≤ places) × Marked (cutAt (capAt table) first size self-too) number marked
+Inv-loop table first size self-too marked₀ walked₀ marked walked =
+    (walked ≤ places) × Marked (cutAt (capAt table) first size self-too) walked marked
 
 abbrev μ-loop : tie.MeasureT-loop
-μ-loop table first size self-too marked₀ number₀ marked number = places - number
+μ-loop table first size self-too marked₀ walked₀ marked walked = places - walked
 
 loop-holds : tie.Need-loop-holds Inv-loop μ-loop
 loop-holds c = (omega arith, marked-none _ _ refl)
@@ -35,8 +35,8 @@ cast-marked c = search needs
 array-write-marked : tie.Need-array-write-marked Inv-loop μ-loop
 array-write-marked c = omega arith
 
-add-number : tie.Need-add-number Inv-loop μ-loop
-add-number c = search needs
+add-walked : tie.Need-add-walked Inv-loop μ-loop
+add-walked c = search needs
 
 loop-less : tie.Need-loop-less Inv-loop μ-loop
 loop-less c = search needs
@@ -62,7 +62,7 @@ marks-spec =
     is-below-requires
     cast-marked
     array-write-marked
-    add-number
+    add-walked
     loop-less
     loop-again
     returns)

@@ -1,0 +1,2 @@
+-- What the contract of CALL cites.
+pub mod Carrying
