@@ -6,7 +6,7 @@ use mathlib.Core.List.{List, []}
 use native.Mathlib.Omega.{arith}
 use Rattle.descriptor.specs.Replies.{statusOf}
 use Rattle.descriptor.specs.declared.Reply.{Reply}
-use Rattle.descriptor.specs.declared.Reply.the-variants.{Damaged, BadCaller}
+use Rattle.descriptor.specs.declared.Reply.the-variants.{Damaged, BadHyp, BadCaller}
 use Rattle.descriptor.specs.declared.ObjectNumber.{ObjectNumber}
 use lib.Dec.{eqb, ltb}
 use lib.ListN.{length}
@@ -15,142 +15,175 @@ use Rattle.words.specs.Sizes.{records}
 use Rattle.descriptor.specs.Numbers.{numbered}
 use Rattle.descriptor.specs.declared.FoundObject.the-variants.{Numbered, Beyond}
 use Rattle.descriptor.proofs.DescriptorLaws.{numbered-so, numbered-inside}
-use Rattle.interface.specs.Census.{CensusResult, counted, census}
-use Rattle.interface.proofs.Soundness.{sound-facts}
-use Rattle.tree.specs.Walks.{Linked, placesOnly}
-use Rattle.tree.proofs.LinkLaws.{sound-linked}
-use Rattle.interface.specs.Lookup.{lookup}
-use Rattle.interface.specs.Semaphores.{smCtrl}
-use Rattle.interface.specs.Revoke.{revoke}
-use Rattle.interface.specs.Creations.{createPd, createEc, createSc, createPt, createSm}
-use Rattle.interface.specs.Descriptors.{reading, malformed}
 use Rattle.interface.specs.Basics.{if_then_else_}
 use Rattle.interface.specs.Places.{State, sized, tablesOf, EC, kindWord, objectAt, capAt, placeTableWords, objectTableWords}
 use Rattle.interface.specs.Damage.{soundState, sound, isEc}
-use Rattle.interface.specs.Effects.{run}
-use Rattle.interface.specs.Verdicts.{Call, Verdict, refuse, require_else_then_, replyOf, effectsOf, CREATE-PD, CREATE-EC, CREATE-SC, CREATE-PT, CREATE-SM, REVOKE, LOOKUP, SM-CTRL}
-use Rattle.interface.specs.Rules.{rule, hypercall, called, judged, after, rules, hypercallReply, hypercallTables, Runs}
+use Rattle.interface.specs.Effects.{Effect, run}
+use Rattle.interface.specs.Verdicts.{Call, Verdict, refuse, grant, require_else_then_, replyOf, effectsOf, blockOf}
+use Rattle.interface.specs.Rules.{Built, rule, not-built, hypercall, called, judged, after, rules, hypercallReply, hypercallTables, Runs}
+use Rattle.interface.specs.Census.{CensusResult, counted, census}
 use Rattle.interface.proofs.BoolLaws.{cases, and-left, and-right}
-use Rattle.interface.proofs.ConsequenceLaws.{judged-once, refused-stays, census-once, tables-back}
+use Rattle.interface.proofs.ConsequenceLaws.{judged-once, refused-stays, census-once}
+use Rattle.interface.proofs.Soundness.{sound-facts}
+use Rattle.tree.specs.Walks.{Linked, placesOnly}
+use Rattle.tree.proofs.LinkLaws.{sound-linked}
 use Rattle.capabilities.specs.Callers.{tables, view, Called}
 use Rattle.kernel.specs.declared.Admitted.{Admitted}
 use Rattle.kernel.specs.declared.Admitted.the-variants.{Ec, Refused}
-use Rattle.kernel.specs.Admission.{admission}
-use Rattle.kernel.specs.Promises.{Answers}
+use Rattle.kernel.specs.Admission.{hasRule, isBuilt, admission}
+use Rattle.kernel.specs.Promises.{Outcome, outcome}
 
 -- a caller that is an object number is below the number of records
 pub numbered-small : (caller : ℕ) (number : ObjectNumber) → numbered caller ≡ Numbered number → number .0 < records
 numbered-small caller number e = let inside = numbered-inside caller number e in omega arith
 
-module _ (places objects : List ℕ) (caller : ℕ) where
+-- an admitted caller is no refused one
+ec-refused : {C : Type 0} (number : ObjectNumber) (reply : Reply) → Ec number ≡ Refused reply → C
+ec-refused number reply e = absurd (omega (arith, ap ecOr0 e))
+  where
+    ecOr0 : Admitted → ℕ
+    ecOr0 (Ec number) = 0
+    ecOr0 (Refused reply) = 1
+
+module _ (places objects : List ℕ) (number caller : ℕ) where
   -- the ways out of an admission
-  pub admission-damaged : sound (tables places objects) ≡ false → admission places objects caller ≡ Refused Damaged
+  pub admission-damaged : sound (tables places objects) ≡ false → admission places objects number caller ≡ Refused Damaged
   unfolding admission
   admission-damaged f = rw f
 
-  pub admission-no-ec : sound (tables places objects) ≡ true → isEc (view places objects) caller ≡ false → admission places objects caller ≡ Refused BadCaller
-  unfolding admission
-  admission-no-ec t f = rw (t, f)
+  module _ (t : sound (tables places objects) ≡ true) where
+    pub admission-not-built : isBuilt number ≡ false → admission places objects number caller ≡ Refused BadHyp
+    unfolding admission
+    admission-not-built f = rw (t, f)
 
-  pub admission-ec : sound (tables places objects) ≡ true → isEc (view places objects) caller ≡ true → admission places objects caller ≡ Ec (record { 0 = caller })
-  unfolding admission
-  admission-ec t e = rw (t, e)
+    module _ (b : isBuilt number ≡ true) where
+      admission-no-ec : isEc (view places objects) caller ≡ false → admission places objects number caller ≡ Refused BadCaller
+      unfolding admission
+      admission-no-ec f = rw (t, b, f)
 
-  -- a number past the records, and a record of another kind, are no EC's
-  pub admission-beyond : sound (tables places objects) ≡ true → numbered caller ≡ Beyond → admission places objects caller ≡ Refused BadCaller
-  unfolding isEc
-  admission-beyond t e =
-      cases (ltb caller records)
-      (λ (l : ltb caller records ≡ true).
-      let inside = numbered-so caller (ltb-true caller records l) in
-      let z : _≡_ {A = ℕ} 0 1 = cc in absurd (omega arith))
-      (λ (l : ltb caller records ≡ false). admission-no-ec t (rw l))
+      admission-ec : isEc (view places objects) caller ≡ true → admission places objects number caller ≡ Ec (record { 0 = caller })
+      unfolding admission
+      admission-ec e = rw (t, b, e)
 
-  pub admission-other : (number : ObjectNumber) (kind : ℕ) → sound (tables places objects) ≡ true → numbered caller ≡ Numbered number →
-      kind ≡ objectAt objects (number .0) kindWord → (kind ≡ EC → ⊥) → admission places objects caller ≡ Refused BadCaller
-  unfolding isEc
-  admission-other number kind t e is-kind other =
-      let inside = numbered-inside caller number e in
-      admission-no-ec t
-      (rw (lt-ltb caller records (inside .1))
-      (ne-eqb (objectAt objects caller kindWord) EC (λ is-ec. other (is-kind ∙ ap (λ (n : ℕ). objectAt objects n kindWord) (inside .0) ∙ is-ec))))
+      -- a number past the records, and a record of another kind, are no EC's
+      pub admission-beyond : numbered caller ≡ Beyond → admission places objects number caller ≡ Refused BadCaller
+      unfolding isEc
+      admission-beyond e =
+          cases (ltb caller records)
+          (λ (l : ltb caller records ≡ true).
+          let inside = numbered-so caller (ltb-true caller records l) in
+          let z : _≡_ {A = ℕ} 0 1 = cc in absurd (omega arith))
+          (λ (l : ltb caller records ≡ false). admission-no-ec (rw l))
 
-  pub admission-found : (number : ObjectNumber) (kind : ℕ) → sound (tables places objects) ≡ true → numbered caller ≡ Numbered number →
-      kind ≡ objectAt objects (number .0) kindWord → kind ≡ EC → admission places objects caller ≡ Ec number
-  unfolding isEc
-  admission-found number kind t e is-kind is-ec =
-      let inside = numbered-inside caller number e in
-      admission-ec t
-      (rw (lt-ltb caller records (inside .1))
-      (eq-eqb (objectAt objects caller kindWord) EC (ap (λ (n : ℕ). objectAt objects n kindWord) (sym (inside .0)) ∙ sym is-kind ∙ is-ec))) ∙
-      ap (λ (n : ℕ). Ec (record { 0 = n })) (sym (inside .0))
+      pub admission-other : (ec : ObjectNumber) (kind : ℕ) → numbered caller ≡ Numbered ec → kind ≡ objectAt objects (ec .0) kindWord → (kind ≡ EC → ⊥) →
+          admission places objects number caller ≡ Refused BadCaller
+      unfolding isEc
+      admission-other ec kind e is-kind other =
+          let inside = numbered-inside caller ec e in
+          admission-no-ec
+          (rw (lt-ltb caller records (inside .1))
+          (ne-eqb (objectAt objects caller kindWord) EC (λ is-ec. other (is-kind ∙ ap (λ (n : ℕ). objectAt objects n kindWord) (inside .0) ∙ is-ec))))
 
-  -- a call of a built number is judged by its rule once the caller is admitted
-  module _ (verdict : State → Call → Verdict) (c : Call) (is-rule : hypercall (c .number) ≡ rule verdict) (is-caller : c .caller ≡ caller) where
-    judged-so : judged (tables places objects) c ≡
-        (require sound (tables places objects) else Damaged then require isEc (view places objects) caller else BadCaller then verdict (view places objects) c)
-    unfolding called
-    judged-so = judged-once (tables places objects) c ∙ (rw (is-rule, is-caller))
-
-    pub judged-called : Called places objects caller → judged (tables places objects) c ≡ verdict (view places objects) c
-    judged-called k = judged-so ∙ (rw (k .is-sound, k .is-ec))
-
-    -- a refusal before the call's own checks leaves the tables
-    refused-answers : (reply : Reply) → judged (tables places objects) c ≡ refuse reply → (statusOf reply ≡ 0 → ⊥) → Answers c places objects places objects reply
-    refused-answers reply e n =
-        let is-reply : hypercallReply (tables places objects) c ≡ reply = ap replyOf e in
-        record {
-          replies = sym is-reply;
-          leaves = sym (refused-stays .hypercall-stays (tables places objects) c (λ z. n (ap statusOf (sym is-reply) ∙ z)) .0);
-        }
-
-    pub not-admitted : (reply : Reply) → admission places objects caller ≡ Refused reply → Answers c places objects places objects reply
-    not-admitted reply e =
-        cases (sound (tables places objects))
-        (λ (t : sound (tables places objects) ≡ true).
-        cases (isEc (view places objects) caller)
-        (λ (k : isEc (view places objects) caller ≡ true).
-        let admitted = admission-ec t k in
-        let z : _≡_ {A = ℕ} 0 1 = cc in absurd (omega arith))
-        (λ (f : isEc (view places objects) caller ≡ false).
-        let refused = admission-no-ec t f in
-        let is-reply : BadCaller ≡ reply = cc in
-        rw (← is-reply) (refused-answers BadCaller (judged-so ∙ (rw (t, f))) (λ z. omega arith))))
-        (λ (f : sound (tables places objects) ≡ false).
-        let refused = admission-damaged f in
-        let is-reply : Damaged ≡ reply = cc in
-        rw (← is-reply) (refused-answers Damaged (judged-so ∙ (rw f)) (λ z. omega arith)))
-
-    tables-so : Called places objects caller →
-        hypercallTables (tables places objects) c ≡ tablesOf (run (effectsOf (verdict (view places objects) c)) (view places objects))
-    unfolding hypercallTables after judged sound
-    tables-so k =
-        let fit : sized (tables places objects) ≡ true = and-left (sized (tables places objects)) (soundState (view places objects)) (k .is-sound) in
-        let is-verdict : rules (view places objects) c ≡ verdict (view places objects) c = rw fit at (judged-called k) in
-        rw (fit, is-verdict)
-
-    -- an admitted call answers as its rule does
-    pub ran-answers : Called places objects caller → (placesAfter objectsAfter : List ℕ) (reply : Reply) →
-        Runs verdict c (tables places objects) (tables placesAfter objectsAfter) reply → Answers c places objects placesAfter objectsAfter reply
-    ran-answers k placesAfter objectsAfter reply runs =
-        record { replies = runs .replies ∙ ap replyOf (sym (judged-called k)); leaves = runs .leaves ∙ sym (tables-so k) }
+      pub admission-found : (ec : ObjectNumber) (kind : ℕ) → numbered caller ≡ Numbered ec → kind ≡ objectAt objects (ec .0) kindWord → kind ≡ EC →
+          admission places objects number caller ≡ Ec ec
+      unfolding isEc
+      admission-found ec kind e is-kind is-ec =
+          let inside = numbered-inside caller ec e in
+          admission-ec
+          (rw (lt-ltb caller records (inside .1))
+          (eq-eqb (objectAt objects caller kindWord) EC (ap (λ (n : ℕ). objectAt objects n kindWord) (sym (inside .0)) ∙ sym is-kind ∙ is-ec))) ∙
+          ap (λ (n : ℕ). Ec (record { 0 = n })) (sym (inside .0))
 
   -- an admitted caller is an EC of sound tables
-  pub admitted-called : (number : ObjectNumber) → admission places objects caller ≡ Ec number → (number .0 ≡ caller) × Called places objects caller
-  admitted-called number e =
+  admitted-called : (ec : ObjectNumber) → admission places objects number caller ≡ Ec ec → (ec .0 ≡ caller) × Called places objects caller
+  admitted-called ec e =
       cases (sound (tables places objects))
       (λ (t : sound (tables places objects) ≡ true).
+      cases (isBuilt number)
+      (λ (b : isBuilt number ≡ true).
       cases (isEc (view places objects) caller)
       (λ (k : isEc (view places objects) caller ≡ true).
-      let admitted = admission-ec t k in
-      let is-number : number ≡ record { 0 = caller } = cc in
-      (ap (λ (n : ObjectNumber). n .0) is-number, record { is-sound = t; is-ec = k }))
-      (λ (f : isEc (view places objects) caller ≡ false).
-      let refused = admission-no-ec t f in
-      let z : _≡_ {A = ℕ} 0 1 = cc in absurd (omega arith)))
+      let same : record { 0 = caller } ≡ ec = ec-same (sym (admission-ec t b k) ∙ e) in
+      (sym (ap (λ (n : ObjectNumber). n .0) same), record { is-sound = t; is-ec = k }))
+      (λ (f : isEc (view places objects) caller ≡ false). ec-refused ec BadCaller (sym e ∙ admission-no-ec t b f)))
+      (λ (f : isBuilt number ≡ false). ec-refused ec BadHyp (sym e ∙ admission-not-built t f)))
+      (λ (f : sound (tables places objects) ≡ false). ec-refused ec Damaged (sym e ∙ admission-damaged f))
+    where
+      ec-same : {a b : ObjectNumber} → Ec a ≡ Ec b → a ≡ b
+      ec-same e = cc
+
+  -- and it is who the call names
+  pub admitted-caller : (ec : ObjectNumber) → admission places objects number caller ≡ Ec ec → ec .0 ≡ caller
+  admitted-caller ec e = admitted-called ec e .0
+
+  pub admitted-ec : (ec : ObjectNumber) → admission places objects number caller ≡ Ec ec → Called places objects (ec .0)
+  admitted-ec ec e = let admitted = admitted-called ec e in subst (Called places objects) (sym (admitted .0)) (admitted .1)
+
+-- what a hypercall comes to where its verdict is known
+module _ (places objects : List ℕ) (c : Call) where
+  abbrev s : State
+  s = view places objects
+
+  -- a refusal leaves the tables and the block
+  refused-outcome : (reply : Reply) → judged (tables places objects) c ≡ refuse reply → (statusOf reply ≡ 0 → ⊥) →
+      record { reply = reply; tables = tables places objects; block = c .target } ≡ outcome (tables places objects) c
+  refused-outcome reply e n =
+      let is-reply : hypercallReply (tables places objects) c ≡ reply = ap replyOf e in
+      let (tables-stay, block-stays) = refused-stays .hypercall-stays (tables places objects) c (λ z. n (ap statusOf (sym is-reply) ∙ z)) in
+      λ i. record { reply = sym is-reply i; tables = sym tables-stay i; block = sym block-stays i }
+
+  -- a number that is not built
+  pub unbuilt-outcome : sound (tables places objects) ≡ true → hypercall (c .number) ≡ not-built →
+      record { reply = BadHyp; tables = tables places objects; block = c .target } ≡ outcome (tables places objects) c
+  unfolding called
+  unbuilt-outcome t e = refused-outcome BadHyp (judged-once (tables places objects) c ∙ (rw (t, e))) (λ z. omega arith)
+
+  -- a built one, by an EC: its rule decides
+  module _ (verdict : State → Call → Verdict) (is-rule : hypercall (c .number) ≡ rule verdict) (k : Called places objects (c .caller)) where
+    judged-called : judged (tables places objects) c ≡ verdict s c
+    unfolding called
+    judged-called = judged-once (tables places objects) c ∙ (rw (k .is-sound, is-rule, k .is-ec))
+
+    tables-so : hypercallTables (tables places objects) c ≡ tablesOf (run (effectsOf (verdict s c)) s)
+    unfolding hypercallTables after judged sound
+    tables-so =
+        let fit : sized (tables places objects) ≡ true = and-left (sized (tables places objects)) (soundState s) (k .is-sound) in
+        let is-verdict : rules s c ≡ verdict s c = rw fit at judged-called in
+        rw (fit, is-verdict)
+
+    pub ran-outcome : (placesAfter objectsAfter block : List ℕ) (reply : Reply) →
+        Runs verdict c (tables places objects) (tables placesAfter objectsAfter) reply → block ≡ blockOf (c .target) (verdict s c) →
+        record { reply = reply; tables = tables placesAfter objectsAfter; block = block } ≡ outcome (tables places objects) c
+    ran-outcome placesAfter objectsAfter block reply runs is-block =
+        let is-reply = runs .replies ∙ ap replyOf (sym judged-called) in
+        let is-tables = runs .leaves ∙ sym tables-so in
+        let same-block = is-block ∙ ap (blockOf (c .target)) (sym judged-called) in
+        λ i. record { reply = is-reply i; tables = is-tables i; block = same-block i }
+
+-- who is not admitted is refused
+module _ (places objects : List ℕ) (c : Call) (reply : Reply) (e : admission places objects (c .number) (c .caller) ≡ Refused reply) where
+  refused-same : (other : Reply) → admission places objects (c .number) (c .caller) ≡ Refused other → other ≡ reply
+  refused-same other f = cc
+
+  by-rule : (built : Built) → hypercall (c .number) ≡ built → sound (tables places objects) ≡ true →
+      record { reply = reply; tables = tables places objects; block = c .target } ≡ outcome (tables places objects) c
+  unfolding called
+  by-rule not-built is-built t =
+      rw (sym (refused-same BadHyp (admission-not-built places objects (c .number) (c .caller) t (rw is-built)))) (unbuilt-outcome places objects c t is-built)
+  by-rule (rule verdict) is-built t =
+      cases (isEc (view places objects) (c .caller))
+      (λ (k : isEc (view places objects) (c .caller) ≡ true).
+      ec-refused _ reply (sym (admission-ec places objects (c .number) (c .caller) t (rw is-built) k) ∙ e))
+      (λ (f : isEc (view places objects) (c .caller) ≡ false).
+      rw (sym (refused-same BadCaller (admission-no-ec places objects (c .number) (c .caller) t (rw is-built) f)))
+      (refused-outcome places objects c BadCaller (judged-once (tables places objects) c ∙ (rw (t, is-built, f))) (λ z. omega arith)))
+
+  pub not-admitted : record { reply = reply; tables = tables places objects; block = c .target } ≡ outcome (tables places objects) c
+  not-admitted =
+      cases (sound (tables places objects)) (λ (t : sound (tables places objects) ≡ true). by-rule (hypercall (c .number)) refl t)
       (λ (f : sound (tables places objects) ≡ false).
-      let refused = admission-damaged f in
-      let z : _≡_ {A = ℕ} 0 1 = cc in absurd (omega arith))
+      rw (sym (refused-same Damaged (admission-damaged places objects (c .number) (c .caller) f)))
+      (refused-outcome places objects c Damaged (judged-once (tables places objects) c ∙ (rw f)) (λ z. omega arith)))
 
 -- the census of damaged tables, and that of sound ones
 module _ (places objects : List ℕ) (place : ℕ) (list : List ℕ) where
@@ -183,70 +216,3 @@ module _ (places objects : List ℕ) (t : sound (tables places objects) ≡ true
   census-links =
       sound-linked (view places objects)
       (sound-facts (view places objects) (and-right (sized (tables places objects)) (soundState (view places objects)) t))
-
--- what an admitted caller may call with
-pub admitted-ec : (places objects : List ℕ) (caller : ℕ) (number : ObjectNumber) → admission places objects caller ≡ Ec number → Called places objects (number .0)
-admitted-ec places objects caller number e =
-    let admitted = admitted-called places objects caller number e in
-    subst (Called places objects) (sym (admitted .0)) (admitted .1)
-
--- a call by an admitted caller answers as its rule does
-pub admitted-answers : (places objects : List ℕ) (caller : ℕ) (number : ObjectNumber) → admission places objects caller ≡ Ec number →
-    (verdict : State → Call → Verdict) (c : Call) → hypercall (c .number) ≡ rule verdict → c .caller ≡ caller →
-    (placesAfter objectsAfter : List ℕ) (reply : Reply) →
-    (c .caller ≡ number .0 → Runs verdict c (tables places objects) (tables placesAfter objectsAfter) reply) → Answers c places objects placesAfter objectsAfter reply
-admitted-answers places objects caller number e verdict c is-rule is-caller placesAfter objectsAfter reply runs =
-    let admitted = admitted-called places objects caller number e in
-    ran-answers places objects caller verdict c is-rule is-caller (admitted .1) placesAfter objectsAfter reply (runs (is-caller ∙ sym (admitted .0)))
-
--- the rules of the numbers
-module _ (number : ℕ) where
-  pub is-lookup : number ≡ LOOKUP → hypercall number ≡ rule lookup
-  unfolding hypercall
-  is-lookup e = rw e
-
-  pub is-sm-ctrl : number ≡ SM-CTRL → hypercall number ≡ rule smCtrl
-  unfolding hypercall
-  is-sm-ctrl e = rw e
-
-  pub is-revoke : number ≡ REVOKE → hypercall number ≡ rule revoke
-  unfolding hypercall
-  is-revoke e = rw e
-
-  pub is-create-pd : number ≡ CREATE-PD → hypercall number ≡ rule createPd
-  unfolding hypercall
-  is-create-pd e = rw e
-
-  pub is-create-ec : number ≡ CREATE-EC → hypercall number ≡ rule createEc
-  unfolding hypercall
-  is-create-ec e = rw e
-
-  pub is-create-sc : number ≡ CREATE-SC → hypercall number ≡ rule createSc
-  unfolding hypercall
-  is-create-sc e = rw e
-
-  pub is-create-pt : number ≡ CREATE-PT → hypercall number ≡ rule createPt
-  unfolding hypercall
-  is-create-pt e = rw e
-
-  pub is-create-sm : number ≡ CREATE-SM → hypercall number ≡ rule createSm
-  unfolding hypercall
-  is-create-sm e = rw e
-
--- LOOKUP takes no steps
-lookup-steps : (s : State) (c : Call) → effectsOf (lookup s c) ≡ []
-unfolding lookup
-lookup-steps s c =
-    cases (malformed (reading (c .first))) (λ (t : malformed (reading (c .first)) ≡ true). rw t)
-    (λ (f : malformed (reading (c .first)) ≡ false). rw f)
-
-pub lookup-runs : (places objects : List ℕ) (caller : ℕ) (c : Call) (reply : Reply) → Called places objects caller →
-    reply ≡ replyOf (lookup (view places objects) c) → Runs lookup c (tables places objects) (tables places objects) reply
-unfolding run sound
-lookup-runs places objects caller c reply called e =
-    record {
-      replies = e;
-      leaves =
-          rw (lookup-steps (view places objects) c)
-          (sym (tables-back (tables places objects) (and-left (sized (tables places objects)) (soundState (view places objects)) (called .is-sound))));
-    }

@@ -1,2 +1,3 @@
--- What is proved of the kernel's promises.
+-- The laws that the functions' proofs cite.
 pub mod AnswerLaws
+pub mod RuleLaws

@@ -1,16 +1,27 @@
--- Who is admitted to a call: a caller that is an EC, on sound tables.
+-- Who is admitted to a call: a caller that is an EC, on sound tables, with a number that is built.
 use Prim.Native.Nat.{ℕ}
+use mathlib.Core.Bool.{Bool, true, false}
 use mathlib.Core.List.{List}
-use Rattle.descriptor.specs.declared.Reply.the-variants.{Damaged, BadCaller}
+use Rattle.descriptor.specs.declared.Reply.the-variants.{Damaged, BadHyp, BadCaller}
 use Rattle.interface.specs.Basics.{if_then_else_}
 use Rattle.interface.specs.Damage.{sound, isEc}
+use Rattle.interface.specs.Rules.{Built, rule, not-built, hypercall}
 use Rattle.capabilities.specs.Callers.{tables, view}
 use Rattle.kernel.specs.declared.Admitted.{Admitted}
 use Rattle.kernel.specs.declared.Admitted.the-variants.{Ec, Refused}
 
--- damage is tested before the caller
-unfoldable pub admission : List ℕ → List ℕ → ℕ → Admitted
-admission places objects caller =
+-- whether there is a rule
+abbrev pub hasRule : Built → Bool
+hasRule (rule verdict) = true
+hasRule not-built = false
+
+-- whether a hypercall number is built
+abbrev pub isBuilt : ℕ → Bool
+isBuilt number = hasRule (hypercall number)
+
+-- damage is tested before the number, and the number before the caller
+unfoldable pub admission : List ℕ → List ℕ → ℕ → ℕ → Admitted
+admission places objects number caller =
     if sound (tables places objects) then
-    (if isEc (view places objects) caller then Ec (record { 0 = caller }) else Refused BadCaller)
+    (if isBuilt number then (if isEc (view places objects) caller then Ec (record { 0 = caller }) else Refused BadCaller) else Refused BadHyp)
     else Refused Damaged

@@ -1,14 +1,33 @@
--- What the kernel's functions promise, of any tables: the reply and the tables of the interface.
+-- What a hypercall promises, of any tables and blocks: the reply, the tables and the block of the interface.
 use Prim.Native.Nat.{ℕ}
-use mathlib.Core.Path.{_≡_}
 use mathlib.Core.List.{List}
 use Rattle.descriptor.specs.declared.Reply.{Reply}
 use Rattle.interface.specs.Places.{Tables}
 use Rattle.interface.specs.Verdicts.{Call}
-use Rattle.interface.specs.Rules.{hypercallReply, hypercallTables}
-use Rattle.capabilities.specs.Callers.{tables}
+use Rattle.interface.specs.Rules.{hypercallReply, hypercallTables, hypercallBlock}
 
--- a call's reply, and both tables after it
-pub record Answers (c : Call) (places objects places-after objects-after : List ℕ) (reply : Reply) : Type 0 where
-  pub replies : reply ≡ hypercallReply (tables places objects) c
-  pub leaves : tables places-after objects-after ≡ hypercallTables (tables places objects) c
+-- a hypercall by its number, its caller, its six words and the two blocks
+abbrev pub callOf : ℕ → ℕ → ℕ → ℕ → ℕ → ℕ → ℕ → ℕ → List ℕ → List ℕ → Call
+callOf number caller first second third fourth fifth sixth source target =
+    record {
+      number = number;
+      caller = caller;
+      first = first;
+      second = second;
+      third = third;
+      fourth = fourth;
+      fifth = fifth;
+      sixth = sixth;
+      source = source;
+      target = target;
+    }
+
+-- what a hypercall comes to: its reply, both tables after it, and the callee's block
+pub record Outcome : Type 0 where
+  pub reply : Reply
+  pub tables : Tables
+  pub block : List ℕ
+
+-- the outcome that the rules give
+abbrev pub outcome : Tables → Call → Outcome
+outcome tables c = record { reply = hypercallReply tables c; tables = hypercallTables tables c; block = hypercallBlock tables c }

@@ -1,15 +1,35 @@
-// The kernel's face: boot, the hypercalls and the census, on lent tables of any length and content.
+// The kernel's face: boot, the hypercalls, the census and the untyped part of a received message, on lent tables, blocks and lists of any length and content.
 ghost use mathlib.Core.Path.{_≡_};
-ghost use Rattle.interface.specs.Verdicts.{Call, CREATE-PD, CREATE-EC, CREATE-SC, CREATE-PT, CREATE-SM, REVOKE, LOOKUP, SM-CTRL};
+ghost use Rattle.interface.specs.Verdicts.{Call};
+ghost use Rattle.interface.specs.Message.{untypedPart};
 ghost use Rattle.interface.specs.Census.{CensusResult};
 ghost use Rattle.interface.specs.Census.{census as censusOf};
 ghost use Rattle.boot.specs.Booted.{Booted};
-ghost use Rattle.capabilities.specs.Callers.{tables};
-ghost use Rattle.kernel.specs.Admission.{admission};
-ghost use Rattle.kernel.specs.Promises.{Answers};
+ghost use Rattle.capabilities.specs.Callers.{tables, Called};
+ghost use Rattle.kernel.specs.Admission.{isBuilt, admission};
+ghost use Rattle.kernel.specs.Promises.{callOf, Outcome, outcome};
 use descriptor::FoundObject;
 use descriptor::ObjectNumber;
 use descriptor::Reply;
+
+// The numbers of the hypercalls that are built.
+pub const CALL: u32 = 0;
+
+pub const CREATE_PD: u32 = 2;
+
+pub const CREATE_EC: u32 = 3;
+
+pub const CREATE_SC: u32 = 4;
+
+pub const CREATE_PT: u32 = 5;
+
+pub const CREATE_SM: u32 = 6;
+
+pub const REVOKE: u32 = 7;
+
+pub const LOOKUP: u32 = 8;
+
+pub const SM_CTRL: u32 = 11;
 
 // A caller that is an EC, on sound tables, or the refusal.
 pub enum Admitted {
@@ -17,20 +37,110 @@ pub enum Admitted {
     Refused(Reply),
 }
 
-// Damage is tested before the caller, and the caller before a call's own checks.
-fn admit(caller: u32, places: &[u32], objects: &[u32]) -> Admitted
-    ensures { λ r. ⌜ r ≡ admission (now (places .entry)) (now (objects .entry)) caller ⌝ }
+// Whether a hypercall number is built.
+fn is_built(number: u32) -> bool
+    ensures { λ r. ⌜ r ≡ isBuilt number ⌝ }
+{
+    (number == CALL) | ((CREATE_PD <= number) & (number <= LOOKUP)) | (number == SM_CTRL)
+}
+
+// Damage is tested before the number, the number before the caller, and the caller before a call's own checks.
+fn admit(number: u32, caller: u32, places: &[u32], objects: &[u32]) -> Admitted
+    ensures { λ r. ⌜ r ≡ admission (now (places .entry)) (now (objects .entry)) number caller ⌝ }
 {
     if !soundness::is_sound(places, objects) {
         return Admitted::Refused(Reply::Damaged);
     }
-    let FoundObject::Numbered(number) = ObjectNumber::found(caller) else {
+    if !is_built(number) {
+        return Admitted::Refused(Reply::BadHyp);
+    }
+    let FoundObject::Numbered(found) = ObjectNumber::found(caller) else {
         return Admitted::Refused(Reply::BadCaller);
     };
-    if objects::load(objects, number, objects::KIND) != objects::EC {
+    if objects::load(objects, found, objects::KIND) != objects::EC {
         return Admitted::Refused(Reply::BadCaller);
     }
-    Admitted::Ec(number)
+    Admitted::Ec(found)
+}
+
+// A hypercall by an EC on sound tables.
+fn dispatch(
+    number: u32,
+    caller: ObjectNumber,
+    first: u32,
+    second: u32,
+    third: u32,
+    fourth: u32,
+    fifth: u32,
+    sixth: u32,
+    places: &mut [u32],
+    objects: &mut [u32],
+    source: &[u32],
+    target: &mut [u32],
+) -> Reply
+    requires { ⌜ Called (now places) (now objects) (caller .0) ⌝ }
+    ensures { λ r. ⌜ record { reply = r; tables = tables (now (places .exit)) (now (objects .exit)); block = now (target .exit) } ≡ outcome (tables (now (places .entry)) (now (objects .entry))) (callOf number (caller .0) first second third fourth fifth sixth (now (source .entry)) (now (target .entry))) ⌝ }
+{
+    match number {
+        CALL => portals::call(caller, first, places, objects, source, target),
+        CREATE_PD => creations::create_pd(caller, first, second, third, places, objects),
+        CREATE_EC => creations::create_ec(caller, first, second, third, fourth, places, objects),
+        CREATE_SC => creations::create_sc(caller, first, second, third, fourth, places, objects),
+        CREATE_PT => creations::create_pt(
+            caller,
+            first,
+            second,
+            third,
+            fourth,
+            fifth,
+            sixth,
+            places,
+            objects,
+        ),
+        CREATE_SM => creations::create_sm(caller, first, second, third, places, objects),
+        REVOKE => revocation::revoke(caller, first, second, places, objects),
+        LOOKUP => lookup::look_up(caller, first, places, objects),
+        SM_CTRL => semaphores::sm_ctrl(caller, first, second, places, objects),
+        _ => Reply::BadHyp,
+    }
+}
+
+// Any hypercall: its number, the caller's EC number and the six words after it (a call takes as many as it has), the place table and the object table, the caller's message
+// block and the callee's.
+pub fn hypercall(
+    number: u32,
+    caller: u32,
+    first: u32,
+    second: u32,
+    third: u32,
+    fourth: u32,
+    fifth: u32,
+    sixth: u32,
+    places: &mut [u32],
+    objects: &mut [u32],
+    source: &[u32],
+    target: &mut [u32],
+) -> Reply
+    ensures { λ r. ⌜ record { reply = r; tables = tables (now (places .exit)) (now (objects .exit)); block = now (target .exit) } ≡ outcome (tables (now (places .entry)) (now (objects .entry))) (callOf number caller first second third fourth fifth sixth (now (source .entry)) (now (target .entry))) ⌝ }
+{
+    let admitted = admit(number, caller, places, objects);
+    match admitted {
+        Admitted::Refused(reply) => reply,
+        Admitted::Ec(ec) => dispatch(
+            number,
+            ec,
+            first,
+            second,
+            third,
+            fourth,
+            fifth,
+            sixth,
+            places,
+            objects,
+            source,
+            target,
+        ),
+    }
 }
 
 // Fills two lent tables as they are at boot; tables of other lengths are refused and stay.
@@ -38,172 +148,6 @@ pub fn boot(places: &mut [u32], objects: &mut [u32]) -> Reply
     ensures { λ r. ⌜ Booted (now (places .entry)) (now (objects .entry)) (now (places .exit)) (now (objects .exit)) r ⌝ }
 {
     boot::boot(places, objects)
-}
-
-// LOOKUP: the largest range around a descriptor's base, as a descriptor, or 0 where nothing is held there.
-pub fn lookup(caller: u32, descriptor: u32, places: &[u32], objects: &[u32]) -> Reply
-    ensures { λ r. ⌜ ((c : Call) → c .number ≡ LOOKUP → c .caller ≡ caller → c .first ≡ descriptor → Answers c (now (places .entry)) (now (objects .entry)) (now (places .entry)) (now (objects .entry)) r) ⌝ }
-{
-    let admitted = admit(caller, places, objects);
-    match admitted {
-        Admitted::Refused(reply) => reply,
-        Admitted::Ec(ec) => lookup::look_up(ec, descriptor, places, objects),
-    }
-}
-
-// SM_CTRL: counts a semaphore up or down.
-pub fn sm_ctrl(
-    caller: u32,
-    selector: u32,
-    operation: u32,
-    places: &[u32],
-    objects: &mut [u32],
-) -> Reply
-    ensures { λ r. ⌜ ((c : Call) → c .number ≡ SM-CTRL → c .caller ≡ caller → c .first ≡ selector → c .second ≡ operation → Answers c (now (places .entry)) (now (objects .entry)) (now (places .entry)) (now (objects .exit)) r) ⌝ }
-{
-    let admitted = admit(caller, places, objects);
-    match admitted {
-        Admitted::Refused(reply) => reply,
-        Admitted::Ec(ec) => semaphores::sm_ctrl(ec, selector, operation, places, objects),
-    }
-}
-
-// REVOKE: removes a mask's permissions from every strict descendant of a range, and from the range too if asked.
-pub fn revoke(
-    caller: u32,
-    descriptor: u32,
-    self_word: u32,
-    places: &mut [u32],
-    objects: &[u32],
-) -> Reply
-    ensures { λ r. ⌜ ((c : Call) → c .number ≡ REVOKE → c .caller ≡ caller → c .first ≡ descriptor → c .second ≡ «self_word» → Answers c (now (places .entry)) (now (objects .entry)) (now (places .exit)) (now (objects .entry)) r) ⌝ }
-{
-    let admitted = admit(caller, places, objects);
-    match admitted {
-        Admitted::Refused(reply) => reply,
-        Admitted::Ec(ec) => revocation::revoke(ec, descriptor, self_word, places, objects),
-    }
-}
-
-// CREATE_PD: new selector, PD selector, initial descriptor. The new PD takes the next domain, which first gets the initial range.
-pub fn create_pd(
-    caller: u32,
-    selector: u32,
-    pd: u32,
-    initial: u32,
-    places: &mut [u32],
-    objects: &mut [u32],
-) -> Reply
-    ensures { λ r. ⌜ ((c : Call) → c .number ≡ CREATE-PD → c .caller ≡ caller → c .first ≡ selector → c .second ≡ pd → c .third ≡ initial → Answers c (now (places .entry)) (now (objects .entry)) (now (places .exit)) (now (objects .exit)) r) ⌝ }
-{
-    let admitted = admit(caller, places, objects);
-    match admitted {
-        Admitted::Refused(reply) => reply,
-        Admitted::Ec(ec) => creations::create_pd(ec, selector, pd, initial, places, objects),
-    }
-}
-
-// CREATE_EC: new selector, PD selector, CPU, event base.
-pub fn create_ec(
-    caller: u32,
-    selector: u32,
-    pd: u32,
-    cpu: u32,
-    event_base: u32,
-    places: &mut [u32],
-    objects: &mut [u32],
-) -> Reply
-    ensures { λ r. ⌜ ((c : Call) → c .number ≡ CREATE-EC → c .caller ≡ caller → c .first ≡ selector → c .second ≡ pd → c .third ≡ cpu → c .fourth ≡ «event_base» → Answers c (now (places .entry)) (now (objects .entry)) (now (places .exit)) (now (objects .exit)) r) ⌝ }
-{
-    let admitted = admit(caller, places, objects);
-    match admitted {
-        Admitted::Refused(reply) => reply,
-        Admitted::Ec(ec) => creations::create_ec(
-            ec,
-            selector,
-            pd,
-            cpu,
-            event_base,
-            places,
-            objects,
-        ),
-    }
-}
-
-// CREATE_SC: new selector, PD selector, EC selector, QPD.
-pub fn create_sc(
-    caller: u32,
-    selector: u32,
-    pd: u32,
-    ec_selector: u32,
-    qpd: u32,
-    places: &mut [u32],
-    objects: &mut [u32],
-) -> Reply
-    ensures { λ r. ⌜ ((c : Call) → c .number ≡ CREATE-SC → c .caller ≡ caller → c .first ≡ selector → c .second ≡ pd → c .third ≡ «ec_selector» → c .fourth ≡ qpd → Answers c (now (places .entry)) (now (objects .entry)) (now (places .exit)) (now (objects .exit)) r) ⌝ }
-{
-    let admitted = admit(caller, places, objects);
-    match admitted {
-        Admitted::Refused(reply) => reply,
-        Admitted::Ec(ec) => creations::create_sc(
-            ec,
-            selector,
-            pd,
-            ec_selector,
-            qpd,
-            places,
-            objects,
-        ),
-    }
-}
-
-// CREATE_PT: new selector, PD selector, EC selector, MTD, entry IP, identifier.
-pub fn create_pt(
-    caller: u32,
-    selector: u32,
-    pd: u32,
-    ec_selector: u32,
-    mtd: u32,
-    ip: u32,
-    identifier: u32,
-    places: &mut [u32],
-    objects: &mut [u32],
-) -> Reply
-    ensures { λ r. ⌜ ((c : Call) → c .number ≡ CREATE-PT → c .caller ≡ caller → c .first ≡ selector → c .second ≡ pd → c .third ≡ «ec_selector» → c .fourth ≡ mtd → c .fifth ≡ ip → c .sixth ≡ identifier → Answers c (now (places .entry)) (now (objects .entry)) (now (places .exit)) (now (objects .exit)) r) ⌝ }
-{
-    let admitted = admit(caller, places, objects);
-    match admitted {
-        Admitted::Refused(reply) => reply,
-        Admitted::Ec(ec) => creations::create_pt(
-            ec,
-            selector,
-            pd,
-            ec_selector,
-            mtd,
-            ip,
-            identifier,
-            places,
-            objects,
-        ),
-    }
-}
-
-// CREATE_SM: new selector, PD selector, count.
-pub fn create_sm(
-    caller: u32,
-    selector: u32,
-    pd: u32,
-    count: u32,
-    places: &mut [u32],
-    objects: &mut [u32],
-) -> Reply
-    ensures { λ r. ⌜ ((c : Call) → c .number ≡ CREATE-SM → c .caller ≡ caller → c .first ≡ selector → c .second ≡ pd → c .third ≡ count → Answers c (now (places .entry)) (now (objects .entry)) (now (places .exit)) (now (objects .exit)) r) ⌝ }
-{
-    let admitted = admit(caller, places, objects);
-    match admitted {
-        Admitted::Refused(reply) => reply,
-        Admitted::Ec(ec) => creations::create_sm(ec, selector, pd, count, places, objects),
-    }
 }
 
 // The census of a place: its strict descendants in the list, rising, and their number.
@@ -214,4 +158,11 @@ pub fn census(place: u32, places: &[u32], objects: &[u32], list: &mut [u32]) -> 
         return Reply::Damaged;
     }
     tree::census(place, places, list)
+}
+
+// The untyped part of a received block, as a part of that block: empty for a block of another length or whose counts do not fit.
+pub fn untyped(block: &[u32]) -> &[u32]
+    ensures { λ r. ⌜ now r ≡ untypedPart (now (block .entry)) ⌝ }
+{
+    transfer::untyped(block)
 }
