@@ -1,0 +1,2 @@
+-- What the contracts of the linked functions cite.
+pub mod Packing
