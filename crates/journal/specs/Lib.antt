@@ -1,0 +1,2 @@
+-- What the contracts of the journal's functions cite.
+pub mod Texts

@@ -1,0 +1,123 @@
+// A record of the journal: a kind byte, which is the hypercall's number, and a body of little-endian words.
+ghost use Prim.Native.Nat.{_+_, _*_, _≤_};
+ghost use mathlib.Core.Path.{_≡_};
+ghost use lib.ListN.{length};
+ghost use Rattle.words.specs.Sizes.{blockWords};
+ghost use Rattle.interface.specs.Basics.{listed, word};
+ghost use Rattle.interface.specs.Verdicts.{CALL};
+ghost use Rattle.interface.specs.Journal.{bodyBytes, bodyWord, recordedCall};
+use words::sizes;
+
+// The kinds of records: the numbers of the hypercalls.
+pub const CALL: u8 = 0;
+
+pub const CREATE_PD: u8 = 2;
+
+pub const CREATE_EC: u8 = 3;
+
+pub const CREATE_SC: u8 = 4;
+
+pub const CREATE_PT: u8 = 5;
+
+pub const CREATE_SM: u8 = 6;
+
+pub const REVOKE: u8 = 7;
+
+pub const LOOKUP: u8 = 8;
+
+pub const SM_CTRL: u8 = 11;
+
+// The bytes of a word.
+const WORD_BYTES: usize = 4;
+
+// Where the two blocks of a CALL begin in its body: after the caller and the portal selector, and after the first block.
+const SOURCE_START: usize = 2;
+
+const TARGET_START: usize = SOURCE_START + sizes::BLOCK_WORDS;
+
+// How many bytes follow a kind byte: none for a kind that is none of these.
+pub fn body_bytes(kind: u8) -> usize
+    ensures { λ r. ⌜ r ≡ bodyBytes kind ⌝ }
+{
+    match kind {
+        CALL => 520,
+        CREATE_PD => 16,
+        CREATE_EC => 20,
+        CREATE_SC => 20,
+        CREATE_PT => 28,
+        CREATE_SM => 16,
+        REVOKE => 12,
+        LOOKUP => 8,
+        SM_CTRL => 12,
+        _ => 0,
+    }
+}
+
+// A byte of a body, 0 past its end.
+fn byte(bytes: &[u8], at: usize) -> u8
+    ensures { λ r. ⌜ r ≡ word (now (bytes .entry)) at ⌝ }
+{
+    if at < bytes.len() {
+        return bytes[at];
+    }
+    0
+}
+
+// The word of four bytes, the lowest first.
+fn little_endian(lowest: u8, low: u8, high: u8, highest: u8) -> u32
+    ensures { λ r. ⌜ r ≡ lowest + low * 256 + high * 65536 + highest * 16777216 ⌝ }
+{
+    (lowest as u32) + (low as u32) * 256 + (high as u32) * 65536 + (highest as u32) * 16777216
+}
+
+// The first word of some bytes.
+fn first_word(bytes: &[u8]) -> u32
+    ensures { λ r. ⌜ r ≡ bodyWord (now (bytes .entry)) 0 ⌝ }
+{
+    if bytes.len() < WORD_BYTES {
+        return little_endian(
+            byte(bytes, 0),
+            byte(bytes, 1),
+            byte(bytes, 2),
+            byte(bytes, 3),
+        );
+    }
+    little_endian(bytes[0], bytes[1], bytes[2], bytes[3])
+}
+
+// A word of a body: bytes past the body's end are 0.
+pub fn body_word(body: &[u8], index: usize) -> u32
+    ensures { λ r. ⌜ r ≡ bodyWord (now (body .entry)) index ⌝ }
+{
+    if body.len() / WORD_BYTES < index {
+        return 0;
+    }
+    let start = WORD_BYTES * index;
+    first_word(&body[start..])
+}
+
+// Fills a block with the words of a body from one on.
+fn block_from(body: &[u8], from: usize, block: &mut [u32])
+    requires { ⌜ (from ≤ 2 + blockWords) × (length (now block) ≡ blockWords) ⌝ }
+    ensures { λ r. ⌜ now (block .exit) ≡ listed blockWords (λ i. bodyWord (now (body .entry)) (from + i)) ⌝ }
+{
+    let mut i: usize = 0;
+    while i < sizes::BLOCK_WORDS {
+        block[i] = body_word(body, from + i);
+        i += 1;
+    }
+}
+
+// Fills the caller's block of a CALL from its record's body.
+pub fn source(body: &[u8], block: &mut [u32; sizes::BLOCK_WORDS])
+    ensures { λ r. ⌜ now (block .exit) ≡ recordedCall CALL (now (body .entry)) .source ⌝ }
+{
+    block_from(body, SOURCE_START, block);
+}
+
+// Fills the callee's block of a CALL from its record's body.
+pub fn target(body: &[u8], block: &mut [u32; sizes::BLOCK_WORDS])
+    ensures { λ r. ⌜ now (block .exit) ≡ recordedCall CALL (now (body .entry)) .target ⌝ }
+{
+    block_from(body, TARGET_START, block);
+}
