@@ -25,6 +25,7 @@ pub mod NoteLaws
 pub mod Sequences
 pub mod TableLaws
 pub mod BootLaws
+pub mod GatherLaws
 pub mod LentOutLaws
 pub mod DemandLaws
 pub mod ConsequenceLaws
