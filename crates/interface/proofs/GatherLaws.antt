@@ -8,7 +8,7 @@ use native.Mathlib.Omega.{arith}
 use lib.Dec.{eqb, ltb}
 use borrow.Author.Tests.{eq-eqb, eqb-true, lt-ltb, le-ltb, ltb-true}
 use Rattle.interface.specs.Basics.{if_then_else_, gather, all, any, member, rising}
-use Rattle.interface.proofs.BoolLaws.{cases, and-left, and-right, both, either, or-left, or-right, same-test, either-way}
+use Rattle.interface.proofs.BoolLaws.{and-left, and-right, both, either, or-left, or-right, same-test, either-way}
 use Rattle.interface.proofs.BelowLaws.{below-suc}
 
 -- tests that agree below a number gather the same numbers

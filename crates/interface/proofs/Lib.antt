@@ -32,6 +32,7 @@ pub mod ConsequenceLaws
 pub mod VerdictLaws
 pub mod LookupLaws
 pub mod DelegationLaws
+pub mod FilledLaws
 pub mod RevocationLaws
 pub mod TransferLaws
 pub mod GrantLaws

@@ -59,21 +59,42 @@ match-proper (Good item) (Good window) p q = same-space (eqb (item .space) (wind
     same-space true e = (p item refl, q window refl, eqb-true (item .space) (window .space) e)
     same-space false e = tt
 
--- the source's domain is the sender's, or domain 0 where the sender is the root
-pub source-either : (sender second : ℕ) → (sourceDomain sender second ≡ sender) ⊎ ((sender ≡ root) × (sourceDomain sender second ≡ hypervisor))
+-- where an item is matched with its window, both were read so
+abbrev pub MatchRead : Reading → Reading → Match → Type 0
+MatchRead read window-read (Neither reason) = Unit {0}
+MatchRead read window-read (Both item window) = (read ≡ Good item) × (window-read ≡ Good window)
+
+pub match-read : (item window : Reading) → MatchRead item window (matched item window)
+unfolding matched
+match-read Null Null = tt
+match-read Null Malformed = tt
+match-read Null (Good window) = tt
+match-read Malformed Null = tt
+match-read Malformed Malformed = tt
+match-read Malformed (Good window) = tt
+match-read (Good item) Null = tt
+match-read (Good item) Malformed = tt
+match-read (Good item) (Good window) =
+    either-way (MatchRead (Good item) (Good window)) (eqb (item .space) (window .space)) (Both item window) (Neither TypesDiffer) (refl, refl) tt
+
+-- the source's domain is the sender's, or domain 0 where H is set and the sender is the root
+pub source-either : (sender second : ℕ) →
+    (sourceDomain sender second ≡ sender) ⊎ ((hypervisorBit second ≡ 1) × (sender ≡ root) × (sourceDomain sender second ≡ hypervisor))
 unfolding sourceDomain
-source-either sender second = choose (eqb (hypervisorBit second) 1) (eqb sender root) (eqb-true sender root)
+source-either sender second =
+    choose (eqb (hypervisorBit second) 1) (eqb sender root) (eqb-true (hypervisorBit second) 1) (eqb-true sender root)
   where
-    choose : (asked is-root : Bool) → (is-root ≡ true → sender ≡ root) →
-        ((if asked && is-root then hypervisor else sender) ≡ sender) ⊎ ((sender ≡ root) × ((if asked && is-root then hypervisor else sender) ≡ hypervisor))
-    choose true true h = inr (h refl, refl)
-    choose true false h = inl refl
-    choose false is-root h = inl refl
+    choose : (asked is-root : Bool) → (asked ≡ true → hypervisorBit second ≡ 1) → (is-root ≡ true → sender ≡ root) →
+        ((if asked && is-root then hypervisor else sender) ≡ sender) ⊎
+        ((hypervisorBit second ≡ 1) × (sender ≡ root) × ((if asked && is-root then hypervisor else sender) ≡ hypervisor))
+    choose true true g h = inr (g refl, h refl, refl)
+    choose true false g h = inl refl
+    choose false is-root g h = inl refl
 
 source-small : (sender second : ℕ) → sender < domains → sourceDomain sender second < domains
 source-small sender second f =
     ⊎-elim (λ (own : sourceDomain sender second ≡ sender). rw own f)
-    (λ (zeroth : (sender ≡ root) × (sourceDomain sender second ≡ hypervisor)). rw (zeroth .1) (omega arith))
+    (λ (zeroth : (hypervisorBit second ≡ 1) × (sender ≡ root) × (sourceDomain sender second ≡ hypervisor)). rw (zeroth .2) (omega arith))
     (source-either sender second)
 
 -- a matched item's delegations lie in its range and in its window
@@ -91,7 +112,7 @@ delegate-fits s sender receiver second (Both item window) f l h p =
     let window-ends = subst (λ (space : ℕ). window .base + 2 ^ window .order ≤ selectors space) (sym (p .2)) (p .1 .ends-inside) in
     let item-within = ends-inside (item .order) o hotspot (item .base) (omega arith) in
     let window-within = ends-inside (window .order) o hotspot (window .base) (omega arith) in
-    gives-fit (λ i. placeOf receiver (item .space) (window-base + i)) (λ i. placeOf from (item .space) (item-base + i)) (λ i. item .mask) (2 ^ o) s
+    gives-fit (λ i. placeOf receiver (item .space) (window-base + i)) (λ i. placeOf from (item .space) (item-base + i)) _ (2 ^ o) s
     (λ i b.
     give-fits s from receiver (item .space) (window-base + i) (item-base + i) (source-small sender second f) l (p .0 .space-small) (omega arith) (omega arith) h)
 
