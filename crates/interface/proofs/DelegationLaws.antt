@@ -133,7 +133,7 @@ gives-filled {Ask} (gives-more destination source mask {effects} ask others) s p
     (from, with-mask, later-one step, asked, given))
 
 -- delegations after delegations, and one for each number below one
-pub gives-append : {Ask : ℕ → ℕ → ℕ → Type 0} {xs ys : List Effect} → OnlyGives Ask xs → OnlyGives Ask ys → OnlyGives Ask (xs ++ ys)
+gives-append : {Ask : ℕ → ℕ → ℕ → Type 0} {xs ys : List Effect} → OnlyGives Ask xs → OnlyGives Ask ys → OnlyGives Ask (xs ++ ys)
 gives-append gives-none more = more
 gives-append (gives-more destination source mask ask others) more = gives-more destination source mask ask (gives-append others more)
 

@@ -1,15 +1,13 @@
 -- Delegation adds no permission: what the steps of each call leave of live places, and how they fill null ones.
-use Prim.Native.Nat.{ℕ, _+_, _-_, _^_, _<_}
+use Prim.Native.Nat.{ℕ, _+_, _^_, _<_}
 use mathlib.Core.Path.{_≡_, refl, sym, ap, _∙_, subst}
 use mathlib.Core.Bool.{Bool, true, false, not, _&&_, _||_}
 use mathlib.Core.Logic.{_⊎_, inl, inr}
 use mathlib.Core.List.{List, [], _∷_, _++_}
 use native.Mathlib.Omega.{arith}
-use lib.Dec.{eqb, leb, ltb}
-use lib.ListN.{length}
+use lib.Dec.{eqb}
 use borrow.Author.Tests.{eq-eqb, eqb-true, eqb-false, ltb-true, ltb-false}
-use Rattle.words.specs.Fields.{greatestWord}
-use Rattle.words.specs.Sizes.{domains, object, selectors, placeOf, blockWords}
+use Rattle.words.specs.Sizes.{domains, object, selectors, placeOf}
 use Rattle.words.specs.Permissions.{revoked}
 use Rattle.words.proofs.PlaceLaws.{selector-back}
 use Rattle.descriptor.specs.Descriptors.{Proper}
@@ -17,10 +15,10 @@ use Rattle.descriptor.specs.declared.Range.{Range}
 use Rattle.descriptor.specs.declared.Reading.{Reading}
 use Rattle.descriptor.specs.declared.Reading.the-variants.{Null, Malformed, Good}
 use Rattle.descriptor.specs.declared.Reply.{Reply}
-use Rattle.descriptor.specs.declared.Reply.the-variants.{BadHyp, BadPar, BadCaller, Damaged, BadCap, ComTim, BadCpu}
+use Rattle.descriptor.specs.declared.Reply.the-variants.{BadHyp, BadPar, Damaged}
 use Rattle.descriptor.proofs.DescriptorLaws.{good-proper}
-use Rattle.interface.specs.Basics.{if_then_else_, word}
-use Rattle.interface.specs.Places.{Cap, State, live, parentless, free, PT, SM, kindWord, ecWord, cpuWord, countWord, callBit, kindOf, greatestOf, objectPlace, permitted, objectIn}
+use Rattle.interface.specs.Basics.{word}
+use Rattle.interface.specs.Places.{Cap, State, live, parentless, free, kindWord, kindOf, greatestOf, objectPlace, objectIn}
 use Rattle.interface.specs.Damage.{soundState, isEc}
 use Rattle.interface.specs.Descriptors.{reading, malformed}
 use Rattle.interface.specs.Effects.{Effect, hold, count, among, below, stripped, cutCaps, act, run}
@@ -28,16 +26,20 @@ use Rattle.interface.specs.Verdicts.{Call, CALL, CREATE-PD, CREATE-EC, C
 use Rattle.interface.specs.Creations.{newPlace, freeRecord, nextDomain, Creation, creation, initialGood, initialGives, createPd, createEc, createSc, createPt, createSm}
 use Rattle.interface.specs.Revoke.{cuts, revoke}
 use Rattle.interface.specs.Lookup.{found, lookup}
-use Rattle.interface.specs.Semaphores.{up, down, smCtrl}
-use Rattle.interface.specs.Message.{payloadFits, typedCount, transfer}
+use Rattle.interface.specs.Semaphores.{smCtrl}
+use Rattle.interface.specs.Message.{typedCount}
 use Rattle.interface.specs.PortalCalls.{portalCall}
-use Rattle.interface.specs.Rules.{Built, rule, not-built, hypercall, called, rules, after}
+use Rattle.interface.specs.Rules.{not-built, hypercall, called, rules, after}
 use Rattle.interface.specs.Consequences.{Delegates, this-one, later-one, calleeDomain, AskedByItem, AskedByRange, kindCreated, FilledBy, by-delegation, by-creation, AddsNoPermission}
 use Rattle.interface.proofs.BoolLaws.{cases, not-both, either-way}
 use Rattle.interface.proofs.PutLaws.{put-same, put-other}
 use Rattle.interface.proofs.Soundness.{Sound, sound-facts}
 use Rattle.interface.proofs.SoundObjects.{free-there}
 use Rattle.interface.proofs.TurnLaws.{run-append, require-so}
+use Rattle.interface.proofs.RevokeFits.{revoke-so}
+use Rattle.interface.proofs.SemaphoresFit.{semaphore-so}
+use Rattle.interface.proofs.MessageFits.{call-so}
+use Rattle.interface.proofs.RulesFit.{or-else}
 use Rattle.interface.proofs.CutLaws.{stripped-none}
 use Rattle.interface.proofs.CreationsFit.{stored, stored-words, Granted, stepsOf, granted-so, Initial, no-initial, pd-initial}
 use Rattle.interface.proofs.DelegationLaws.{given-still, OnlyGives, gives-none, gives-keep, gives-filled, listed-gives, selected-inside, carried-gives}
@@ -76,13 +78,9 @@ module _ (s : State) (c : Call) where
 
   -- CALL's steps are its message's
   call-adds : c .number ≡ CALL → Adds (portalCall s c)
-  unfolding portalCall
   call-adds n =
       let here = callerDomain s c in
       let there = calleeDomain s c in
-      let portal = objectPlace here (c .first) in
-      let callee = s .objects (objectIn s portal) ecWord in
-      let moved = transfer s here there (c .source) (c .target) in
       let steps =
       carried-gives Asks s here there (c .source) (c .target) (typedCount (word (c .source) 0))
       (λ i l item window bit read window-read same place source own from at to.
@@ -103,22 +101,14 @@ module _ (s : State) (c : Call) where
         place-inside = to;
         item-mask = refl;
       })) in
-      require-adds (eqb (length (c .source)) blockWords && eqb (length (c .target)) blockWords) BadPar _
-      (λ _.
-      require-adds (permitted s portal PT callBit) BadCap _
-      (λ _.
-      require-adds (not (eqb callee (c .caller))) ComTim _
-      (λ _.
-      require-adds (eqb (s .objects callee cpuWord) (s .objects (c .caller) cpuWord)) BadCpu _
-      (λ _.
-      require-adds (payloadFits (word (c .source) 0)) BadPar (grant (moved .filled) (moved .effects) (moved .block))
+      call-so Adds s c refusal-adds
       (λ _.
       record {
         keeps = λ other-call. gives-keep steps s;
         fills-so =
             λ place null t.
             let (source, mask, step, asked, given) = gives-filled steps s place null t in by-delegation source mask asked step given;
-      })))))
+      })
 
   -- a creation's steps are its delegations, once its object is stored, and then the new place's filling
   module _ (new : Creation) (asked : OnlyGives Asks (new .delegations)) (is-creation : kindCreated (c .number) ≡ free → ⊥)
@@ -214,18 +204,14 @@ module _ (s : State) (c : Call) where
   cuts-fill-none domain self (Good range) place n = null-stays (range .mask) (placeOf domain (range .space) (range .base)) (2 ^ range .order) self place n
 
   revoke-adds : c .number ≡ REVOKE → Adds (revoke s c)
-  unfolding revoke
   revoke-adds n =
       let read = reading (c .first) in
       let steps = cuts (callerDomain s c) (eqb (c .second) 1) read in
-      require-adds (leb (c .second) 1) BadPar _
-      (λ _.
-      require-adds (not (malformed read)) BadPar (grant 0 steps (c .target))
-      (λ _.
-      record {
+      revoke-so Adds s c refusal-adds
+      (record {
         keeps = λ other-call place t. absurd (other-call n);
         fills-so = λ place null t. not-both (live (run steps s .caps place)) t (cuts-fill-none (callerDomain s c) (eqb (c .second) 1) read place null);
-      }))
+      })
 
   -- LOOKUP takes no steps
   lookup-adds : Adds (lookup s c)
@@ -240,21 +226,7 @@ module _ (s : State) (c : Call) where
   count-adds number value = stays-adds (grant 0 (count number value ∷ []) (c .target)) (λ place. refl)
 
   semaphore-adds : Adds (smCtrl s c)
-  unfolding smCtrl
-  semaphore-adds =
-      let place = objectPlace (callerDomain s c) (c .first) in
-      let number = objectIn s place in
-      let value = s .objects number countWord in
-      let raise : Verdict = require ltb value greatestWord else BadPar then grant 0 (count number (value + 1) ∷ []) (c .target) in
-      let lower : Verdict = require ltb 0 value else ComTim then grant 0 (count number (value - 1) ∷ []) (c .target) in
-      let step : Verdict = if eqb (c .second) up then raise else lower in
-      require-adds (leb (c .second) down) BadPar (require permitted s place SM (c .second) else BadCap then step)
-      (λ _.
-      require-adds (permitted s place SM (c .second)) BadCap step
-      (λ _.
-      either-way Adds (eqb (c .second) up) raise lower
-      (require-adds (ltb value greatestWord) BadPar (grant 0 (count number (value + 1) ∷ []) (c .target)) (λ _. count-adds number (value + 1)))
-      (require-adds (ltb 0 value) ComTim (grant 0 (count number (value - 1) ∷ []) (c .target)) (λ _. count-adds number (value - 1)))))
+  semaphore-adds = semaphore-so Adds s c refusal-adds (λ p value. count-adds (objectIn s (objectPlace (callerDomain s c) (c .first))) value)
 
   -- the creations, by an EC on a sound state
   module _ (k : Sound s) (e : isEc s (c .caller) ≡ true) where
@@ -289,29 +261,20 @@ module _ (s : State) (c : Call) where
   unfolding createSm
   sm-adds n = plain-adds _ refl (rw n (omega arith)) (rw n)
 
-  -- one number's rule, and what the other numbers stand for
-  or-else : (number : ℕ) (verdict : State → Call → Verdict) (others : Built) → (isEc s (c .caller) ≡ true → c .number ≡ number → Adds (verdict s c)) →
-      Adds (called s c others) → Adds (called s c (if eqb (c .number) number then rule verdict else others))
-  unfolding called
-  or-else number verdict others f g =
-      cases (eqb (c .number) number)
-      (λ (t : eqb (c .number) number ≡ true).
-      rw t (require-adds (isEc s (c .caller)) BadCaller (verdict s c) (λ e. f e (eqb-true (c .number) number t))))
-      (λ (n : eqb (c .number) number ≡ false). rw n g)
-
   -- the rule of every number
   hypercall-adds : Sound s → Adds (called s c (hypercall (c .number)))
   unfolding hypercall called
   hypercall-adds k =
-      or-else CALL portalCall _ (λ e. call-adds)
-      (or-else CREATE-PD createPd _ (λ e. pd-adds k e)
-      (or-else CREATE-EC createEc _ (λ e. ec-adds)
-      (or-else CREATE-SC createSc _ (λ e. sc-adds)
-      (or-else CREATE-PT createPt _ (λ e. pt-adds)
-      (or-else CREATE-SM createSm _ (λ e. sm-adds)
-      (or-else REVOKE revoke _ (λ e. revoke-adds)
-      (or-else LOOKUP lookup _ (λ e n. lookup-adds)
-      (or-else SM-CTRL smCtrl not-built (λ e n. semaphore-adds)
+      let or-adds = or-else Adds s c refusal-adds in
+      or-adds CALL portalCall _ (λ e. call-adds)
+      (or-adds CREATE-PD createPd _ (λ e. pd-adds k e)
+      (or-adds CREATE-EC createEc _ (λ e. ec-adds)
+      (or-adds CREATE-SC createSc _ (λ e. sc-adds)
+      (or-adds CREATE-PT createPt _ (λ e. pt-adds)
+      (or-adds CREATE-SM createSm _ (λ e. sm-adds)
+      (or-adds REVOKE revoke _ (λ e. revoke-adds)
+      (or-adds LOOKUP lookup _ (λ e n. lookup-adds)
+      (or-adds SM-CTRL smCtrl not-built (λ e n. semaphore-adds)
       (refusal-adds BadHyp)))))))))
 
   rules-add : Adds (rules s c)

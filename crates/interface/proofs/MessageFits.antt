@@ -15,6 +15,7 @@ use Rattle.descriptor.specs.declared.Reading.{Reading}
 use Rattle.descriptor.specs.declared.Reading.the-variants.{Null, Malformed, Good}
 use Rattle.descriptor.specs.declared.Match.{Match}
 use Rattle.descriptor.specs.declared.Match.the-variants.{Both, Neither}
+use Rattle.descriptor.specs.declared.Reply.{Reply}
 use Rattle.descriptor.specs.declared.Reply.the-variants.{ComTim, BadCap, BadPar, BadCpu}
 use Rattle.descriptor.specs.declared.Reason.the-variants.{TypesDiffer}
 use Rattle.descriptor.specs.Descriptors.{Proper}
@@ -25,13 +26,13 @@ use Rattle.interface.specs.Boot.{hypervisor, root}
 use Rattle.interface.specs.Damage.{hasPd, isEc}
 use Rattle.interface.specs.Descriptors.{reading, matched}
 use Rattle.interface.specs.Effects.{run}
-use Rattle.interface.specs.Verdicts.{Call, grant, require_else_then_, effectsOf, callerDomain}
+use Rattle.interface.specs.Verdicts.{Call, Verdict, refuse, grant, require_else_then_, effectsOf, callerDomain}
 use Rattle.interface.specs.Message.{translateWindow, delegateWindow, typedCount, payloadFits, descriptorAt, secondAt, delegateBit, hotspotField, Item, sourceDomain, smallerOrder, raisedBase, delegateItem, translateItem, itemOf, carried, transfer, hypervisorBit}
 use Rattle.interface.specs.PortalCalls.{portalCall}
 use Rattle.interface.proofs.BoolLaws.{either-way}
 use Rattle.interface.proofs.Soundness.{Sound}
 use Rattle.interface.proofs.Steps.{FitInTurn}
-use Rattle.interface.proofs.TurnLaws.{require-fits, same-home, give-fits, PlaceSteps, place-steps-none, place-steps-append, gives-fit}
+use Rattle.interface.proofs.TurnLaws.{require-so, same-home, give-fits, PlaceSteps, place-steps-none, place-steps-append, gives-fit}
 use Rattle.interface.proofs.SoundFacts.{own-record, permitted-kind, portal-ec, home, ec-home}
 
 -- what is read is a proper range, if it is one
@@ -147,31 +148,41 @@ carried-fits s sender receiver source target f l h (suc i) =
     place-steps-append before (itemOf now sender receiver source target i .effects) s ih
     (item-fits now sender receiver source target i f l (same-home s now receiver (ih .objects-stay) h))
 
+-- what holds of every refusal, and of a transfer to the EC of a permitted portal, holds of CALL
+pub call-so : (P : Verdict → Type 0) (s : State) (c : Call) → ((reply : Reply) → P (refuse reply)) →
+    let portal = objectPlace (callerDomain s c) (c .first) in
+    let moved = transfer s (callerDomain s c) (s .objects (s .objects (objectIn s portal) ecWord) domainWord) (c .source) (c .target) in
+    (permitted s portal PT callBit ≡ true → P (grant (moved .filled) (moved .effects) (moved .block))) → P (portalCall s c)
+unfolding portalCall
+call-so P s c refused f =
+    let portal = objectPlace (callerDomain s c) (c .first) in
+    let callee = s .objects (objectIn s portal) ecWord in
+    let moved = transfer s (callerDomain s c) (s .objects callee domainWord) (c .source) (c .target) in
+    let granted = grant (moved .filled) (moved .effects) (moved .block) in
+    let with-payload = require payloadFits (word (c .source) 0) else BadPar then granted in
+    let with-cpu = require eqb (s .objects callee cpuWord) (s .objects (c .caller) cpuWord) else BadCpu then with-payload in
+    let with-callee = require not (eqb callee (c .caller)) else ComTim then with-cpu in
+    let with-portal = require permitted s portal PT callBit else BadCap then with-callee in
+    let blocks = eqb (length (c .source)) blockWords && eqb (length (c .target)) blockWords in
+    require-so P blocks BadPar with-portal (refused BadPar)
+    (λ _.
+    require-so P (permitted s portal PT callBit) BadCap with-callee (refused BadCap)
+    (λ p.
+    require-so P (not (eqb callee (c .caller))) ComTim with-cpu (refused ComTim)
+    (λ _.
+    require-so P (eqb (s .objects callee cpuWord) (s .objects (c .caller) cpuWord)) BadCpu with-payload (refused BadCpu)
+    (λ _. require-so P (payloadFits (word (c .source) 0)) BadPar granted (refused BadPar) (λ _. f p)))))
+
 -- the receiver is the portal's EC, whose domain has a PD
 pub call-fits : (s : State) (c : Call) → Sound s → isEc s (c .caller) ≡ true → FitInTurn (effectsOf (portalCall s c)) s
-unfolding portalCall
 call-fits s c k e =
     let here = callerDomain s c in
     let portal = objectPlace here (c .first) in
     let callee = s .objects (objectIn s portal) ecWord in
     let there = s .objects callee domainWord in
-    let moved = transfer s here there (c .source) (c .target) in
-    let with-payload = require payloadFits (word (c .source) 0) else BadPar then grant (moved .filled) (moved .effects) (moved .block) in
-    let with-cpu = require eqb (s .objects callee cpuWord) (s .objects (c .caller) cpuWord) else BadCpu then with-payload in
-    let with-callee = require not (eqb callee (c .caller)) else ComTim then with-cpu in
-    let with-portal = require permitted s portal PT callBit else BadCap then with-callee in
-    let blocks = eqb (length (c .source)) blockWords && eqb (length (c .target)) blockWords in
-    require-fits s blocks BadPar with-portal
-    (λ _.
-    require-fits s (permitted s portal PT callBit) BadCap with-callee
+    call-so (λ (verdict : Verdict). FitInTurn (effectsOf verdict) s) s c (λ reply. tt)
     (λ p.
-    require-fits s (not (eqb callee (c .caller))) ComTim with-cpu
-    (λ _.
-    require-fits s (eqb (s .objects callee cpuWord) (s .objects (c .caller) cpuWord)) BadCpu with-payload
-    (λ _.
-    require-fits s (payloadFits (word (c .source) 0)) BadPar (grant (moved .filled) (moved .effects) (moved .block))
-    (λ _.
     let is-callee = portal-ec s k (objectIn s portal) (own-record s k (c .caller) (c .first) PT callBit e p) (permitted-kind s portal PT callBit p) in
     let at-home = ec-home s k callee is-callee in
     carried-fits s here there (c .source) (c .target) (home s k here (ec-home s k (c .caller) e) .small) (home s k there at-home .small) at-home
-    (typedCount (word (c .source) 0)) .fit)))))
+    (typedCount (word (c .source) 0)) .fit)

@@ -116,8 +116,8 @@ pub record LiesIn (range : Range) (place : ℕ) : Type 0 where
 abbrev pub calleeDomain : State → Call → ℕ
 calleeDomain s c = s .objects (s .objects (objectIn s (objectPlace (callerDomain s c) (c .first))) ecWord) domainWord
 
--- CALL's message asks for a delegation: an item that word 0 counts sets the delegate bit; its descriptor and the callee's window are read as ranges of one space; the source
--- lies in the item's range, and the caller may delegate from it; the place lies in the window, in the callee's domain; and the mask is the item's
+-- CALL's message asks for a delegation: an item that word 0 counts sets the delegate bit; its descriptor and the callee's delegate window are read as ranges of one space; the
+-- source lies in the item's range, and the caller may delegate from it; the place lies in the window, in the callee's domain; and the mask is the item's
 pub record AskedByItem (s : State) (c : Call) (place source mask : ℕ) : Type 0 where
   pub is-call : c .number ≡ CALL
   pub item : ℕ
