@@ -12,6 +12,7 @@ use Rattle.words.proofs.PlaceLaws.{domain-back}
 use Rattle.descriptor.specs.declared.Range.{Range}
 use Rattle.descriptor.specs.declared.Reading.{Reading}
 use Rattle.descriptor.specs.declared.Reading.the-variants.{Null, Malformed, Good}
+use Rattle.descriptor.specs.declared.Reply.{Reply}
 use Rattle.descriptor.specs.declared.Reply.the-variants.{BadCap, BadCpu, BadPar, NoRoom}
 use Rattle.descriptor.specs.Descriptors.{Proper}
 use Rattle.descriptor.proofs.DescriptorLaws.{good-proper}
@@ -21,7 +22,7 @@ use Rattle.interface.specs.Boot.{cpus}
 use Rattle.interface.specs.Damage.{unnamed-rule, pdsBelow, pd-rule, hasPd, isEc, ec-rule, between1, sc-rule, pt-rule}
 use Rattle.interface.specs.Descriptors.{reading}
 use Rattle.interface.specs.Effects.{Effect, make, hold, act, run}
-use Rattle.interface.specs.Verdicts.{Call, grant, require_else_then_, effectsOf, callerDomain}
+use Rattle.interface.specs.Verdicts.{Call, Verdict, refuse, grant, require_else_then_, effectsOf, callerDomain}
 use Rattle.interface.specs.Creations.{newPlace, pdPlace, ecPlace, freeRecord, nextDomain, Creation, creation, initialGood, initialGives, priority, quantum, createPd, createEc, createSc, createPt, createSm}
 use Rattle.interface.proofs.BoolLaws.{and-left, and-right, both, asked-anyway}
 use Rattle.interface.proofs.BelowLaws.{count-below-same}
@@ -30,15 +31,15 @@ use Rattle.interface.proofs.Soundness.{Sound}
 use Rattle.interface.proofs.Steps.{MakeFits, HoldFits, FitInTurn}
 use Rattle.interface.proofs.OneRecord.{has-pd-stays, is-ec-stays}
 use Rattle.interface.proofs.SoundObjects.{made-differs}
-use Rattle.interface.proofs.TurnLaws.{fit-append, require-fits, same-home, give-fits, PlaceSteps, place-steps-none, gives-fit, gives-others}
+use Rattle.interface.proofs.TurnLaws.{fit-append, require-so, same-home, give-fits, PlaceSteps, place-steps-none, gives-fit, gives-others}
 use Rattle.interface.proofs.SoundFacts.{object-place, object-place-domain, object-place-space, own-record, permitted-kind, is-ec, has-pd, home, ec-home, pds-used}
 
 -- the state once an object with some words is stored in the lowest free record
-abbrev stored : State → List ℕ → State
+abbrev pub stored : State → List ℕ → State
 stored s words = act (make (freeRecord s) words) s
 
 -- the new object has those words
-stored-words : (s : State) (words : List ℕ) → stored s words .objects (freeRecord s) ≡ word words
+pub stored-words : (s : State) (words : List ℕ) → stored s words .objects (freeRecord s) ≡ word words
 unfolding act
 stored-words s words = put-same (s .objects) (freeRecord s) (word words)
 
@@ -122,23 +123,24 @@ module _ (s : State) (k : Sound s) (room : freeRecord s < records) where
       new-fits words (omega arith) (omega arith) (rw (kindOf, new)) (rw (kindOf, new)) (rw (kindOf, new)) (rw (kindOf, new)) (rw (kindOf, new))
 
 -- what a creation that is granted has been checked for
-record Granted (s : State) (c : Call) (new : Creation) : Type 0 where
-  null : live (s .caps (newPlace s c)) ≡ false
-  by-pd : permitted s (pdPlace s c) PD (createBit (new .kind)) ≡ true
-  bound : new .bindable ≡ true
-  on-cpu : new .cpu-good ≡ true
-  parameters : new .parameters-good ≡ true
-  room : freeRecord s < records
-  domain : new .domain-left ≡ true
+pub record Granted (s : State) (c : Call) (new : Creation) : Type 0 where
+  pub null : live (s .caps (newPlace s c)) ≡ false
+  pub by-pd : permitted s (pdPlace s c) PD (createBit (new .kind)) ≡ true
+  pub bound : new .bindable ≡ true
+  pub on-cpu : new .cpu-good ≡ true
+  pub parameters : new .parameters-good ≡ true
+  pub room : freeRecord s < records
+  pub domain : new .domain-left ≡ true
 
 -- the steps of a creation
-abbrev stepsOf : State → Call → Creation → List Effect
+abbrev pub stepsOf : State → Call → Creation → List Effect
 stepsOf s c new = make (freeRecord s) (new .words) ∷ new .delegations ++ (hold (newPlace s c) (freeRecord s) ∷ [])
 
--- its steps fit where they do once it has been checked
-granted-fits : (s : State) (c : Call) (new : Creation) → (Granted s c new → FitInTurn (stepsOf s c new) s) → FitInTurn (effectsOf (creation s c new)) s
+-- what holds of every refusal, and of a creation's steps once it has been checked, holds of it
+pub granted-so : (P : Verdict → Type 0) (s : State) (c : Call) (new : Creation) → ((reply : Reply) → P (refuse reply)) →
+    (Granted s c new → P (grant 0 (stepsOf s c new) (c .target))) → P (creation s c new)
 unfolding creation
-granted-fits s c new f =
+granted-so P s c new refused f =
     let given = grant 0 (stepsOf s c new) (c .target) in
     let has-room = ltb (freeRecord s) records in
     let with-room = require has-room && new .domain-left else NoRoom then given in
@@ -146,17 +148,17 @@ granted-fits s c new f =
     let with-cpu = require new .cpu-good else BadCpu then with-parameters in
     let with-ec = require new .bindable else BadCap then with-cpu in
     let with-pd = require permitted s (pdPlace s c) PD (createBit (new .kind)) else BadCap then with-ec in
-    require-fits s (not (live (s .caps (newPlace s c)))) BadCap with-pd
+    require-so P (not (live (s .caps (newPlace s c)))) BadCap with-pd (refused BadCap)
     (λ null.
-    require-fits s (permitted s (pdPlace s c) PD (createBit (new .kind))) BadCap with-ec
+    require-so P (permitted s (pdPlace s c) PD (createBit (new .kind))) BadCap with-ec (refused BadCap)
     (λ by-pd.
-    require-fits s (new .bindable) BadCap with-cpu
+    require-so P (new .bindable) BadCap with-cpu (refused BadCap)
     (λ bound.
-    require-fits s (new .cpu-good) BadCpu with-parameters
+    require-so P (new .cpu-good) BadCpu with-parameters (refused BadCpu)
     (λ on-cpu.
-    require-fits s (new .parameters-good) BadPar with-room
+    require-so P (new .parameters-good) BadPar with-room (refused BadPar)
     (λ parameters.
-    require-fits s (has-room && new .domain-left) NoRoom given
+    require-so P (has-room && new .domain-left) NoRoom given (refused NoRoom)
     (λ room.
     f
     (record {
@@ -170,16 +172,16 @@ granted-fits s c new f =
     })))))))
 
 -- initial delegations that fit, and leave the new place null
-record Initial (s : State) (c : Call) (new : Creation) : Type 0 where
-  steps : PlaceSteps (new .delegations) (stored s (new .words))
-  place-stays : run (new .delegations) (stored s (new .words)) .caps (newPlace s c) ≡ stored s (new .words) .caps (newPlace s c)
+pub record Initial (s : State) (c : Call) (new : Creation) : Type 0 where
+  pub steps : PlaceSteps (new .delegations) (stored s (new .words))
+  pub place-stays : run (new .delegations) (stored s (new .words)) .caps (newPlace s c) ≡ stored s (new .words) .caps (newPlace s c)
 
--- they do where the new object fits, and the initial delegations leave the new place null
+-- a creation's steps fit where the new object fits, and the initial delegations leave the new place null
 creation-fits : (s : State) (c : Call) (new : Creation) → Sound s → isEc s (c .caller) ≡ true → (Granted s c new → MakeFits s (freeRecord s) (new .words)) →
     (Granted s c new → Initial s c new) → FitInTurn (effectsOf (creation s c new)) s
 unfolding act
 creation-fits s c new k e f g =
-    granted-fits s c new
+    granted-so (λ (verdict : Verdict). FitInTurn (effectsOf verdict) s) s c new (λ reply. tt)
     (λ granted.
     let number = freeRecord s in
     let made = f granted in
@@ -203,7 +205,7 @@ creation-fits s c new k e f g =
     (made, fit-append (new .delegations) (hold (newPlace s c) number ∷ []) (stored s (new .words)) (initial .steps .fit) (held, tt)))
 
 -- no delegations leave it so
-no-initial : (s : State) (c : Call) (new : Creation) → new .delegations ≡ [] → Initial s c new
+pub no-initial : (s : State) (c : Call) (new : Creation) → new .delegations ≡ [] → Initial s c new
 unfolding run
 no-initial s c new none = record { steps = rw none (place-steps-none (stored s (new .words))); place-stays = rw none }
 
@@ -218,11 +220,10 @@ module _ (t : State) (from to place : ℕ) (f : from < domains) (l : to < domain
       let ends = subst (λ (space : ℕ). range .base + 2 ^ range .order ≤ selectors space) (eqb-true (range .space) object good) (p range refl .ends-inside) in
       let inside : (i : ℕ) → i < 2 ^ range .order → range .base + i < selectors object = λ i b. omega arith in
       let destination : ℕ → ℕ = λ i. placeOf to object (range .base + i) in
-      let source : ℕ → ℕ = λ i. placeOf from object (range .base + i) in
-      let mask : ℕ → ℕ = λ i. range .mask in (
-        gives-fit destination source mask (2 ^ range .order) t
+      let source : ℕ → ℕ = λ i. placeOf from object (range .base + i) in (
+        gives-fit destination source _ (2 ^ range .order) t
             (λ i b. give-fits t from to object (range .base + i) (range .base + i) f l (omega arith) (inside i b) (inside i b) h),
-        gives-others destination source mask (2 ^ range .order) t place
+        gives-others destination source _ (2 ^ range .order) t place
             (λ i b same. apart (ap domainOf same ∙ domain-back to object (range .base + i) (omega arith) (inside i b))),
       )
 
@@ -233,21 +234,26 @@ from-1 greatest number h l =
     both (leb 1 number) (leb number greatest) (le-leb 1 number (omega arith)) (le-leb number greatest l)
 
 module _ (s : State) (c : Call) (k : Sound s) (e : isEc s (c .caller) ≡ true) where
+  -- a new PD's initial delegations fit, and leave the new place null
+  pub pd-initial : (new : Creation) → new .words ≡ PD ∷ nextDomain s ∷ [] → new .delegations ≡ initialGives (callerDomain s c) (nextDomain s) (reading (c .third)) →
+      nextDomain s < domains → initialGood (reading (c .third)) ≡ true → freeRecord s < records → Initial s c new
+  pd-initial new w d l good room =
+      let words = PD ∷ nextDomain s ∷ [] in
+      let stored-so = stored-words s words in
+      let here = home s k (callerDomain s c) (ec-home s k (c .caller) e) in
+      let gives =
+      initial-gives (stored s words) (callerDomain s c) (nextDomain s) (newPlace s c) (here .small) l
+      (has-pd (stored s words) (freeRecord s) (nextDomain s) room (rw (kindOf, stored-so)) (rw stored-so))
+      (λ same. let taken = here .taken in omega (arith, object-place-domain (callerDomain s c) (c .first)))
+      (reading (c .third)) (good-proper (c .third)) good in
+      record { steps = rw (w, d) (gives .0); place-stays = rw (w, d) (gives .1) }
+
   -- the steps of each creation's rule fit
   pub pd-creation-fits : FitInTurn (effectsOf (createPd s c)) s
   unfolding createPd
   pd-creation-fits =
       creation-fits s c _ k e (λ granted. pd-fits s k (granted .room) (ltb-true (nextDomain s) domains (granted .domain)))
-      (λ granted.
-      let words = PD ∷ nextDomain s ∷ [] in
-      let new = stored-words s words in
-      let here = home s k (callerDomain s c) (ec-home s k (c .caller) e) in
-      let gives =
-      initial-gives (stored s words) (callerDomain s c) (nextDomain s) (newPlace s c) (here .small) (ltb-true (nextDomain s) domains (granted .domain))
-      (has-pd (stored s words) (freeRecord s) (nextDomain s) (granted .room) (rw (kindOf, new)) (rw new))
-      (λ same. let taken = here .taken in omega (arith, object-place-domain (callerDomain s c) (c .first)))
-      (reading (c .third)) (good-proper (c .third)) (granted .parameters) in
-      record { steps = gives .0; place-stays = gives .1 })
+      (λ granted. pd-initial _ refl refl (ltb-true (nextDomain s) domains (granted .domain)) (granted .parameters) (granted .room))
 
   pub ec-creation-fits : FitInTurn (effectsOf (createEc s c)) s
   unfolding createEc

@@ -1,7 +1,7 @@
 -- What tables and the history of the same events say of each other: demand 3.
 use Prim.Native.Nat.{ℕ, zero, suc, _+_, _%_, _^_, _≤_, _<_}
 use mathlib.Core.Path.{_≡_, refl, sym, ap, _∙_, subst}
-use mathlib.Core.Bool.{Bool, true, false, not, _&&_, _||_, and-false, or-false}
+use mathlib.Core.Bool.{true, false, not, _&&_, _||_, and-false, or-false}
 use mathlib.Core.List.{List, [], _∷_, _++_}
 use native.Mathlib.Omega.{arith}
 use lib.Dec.{eqb, ltb, leb}
@@ -15,7 +15,7 @@ use Rattle.descriptor.specs.declared.Range.{Range}
 use Rattle.descriptor.specs.declared.Reading.the-variants.{Good}
 use Rattle.descriptor.specs.declared.Reply.the-variants.{Success}
 use Rattle.descriptor.specs.Descriptors.{Proper}
-use Rattle.interface.specs.Basics.{if_then_else_, any, gather}
+use Rattle.interface.specs.Basics.{if_then_else_, any}
 use Rattle.interface.specs.Places.{State, Tables, live, nothing, capAt, placeTable, objectTable, tablesOf, greatest, greatestOf, kindOf}
 use Rattle.interface.specs.Descriptors.{describe, reading}
 use Rattle.interface.specs.Effects.{cut, chain, ancestors, among, below, stripped, cutCaps, act, run}
@@ -26,6 +26,7 @@ use Rattle.interface.specs.Census.{descendants, counted, censusOf, censu
 use Rattle.interface.specs.History.{History, held, origins, told, heldAmong, note, heir, heirs, cameFrom}
 use Rattle.interface.specs.Demand.{wholeMask, RevokesBelow, LentOut}
 use Rattle.interface.proofs.BoolLaws.{cases, and-left, and-right, same-test}
+use Rattle.interface.proofs.GatherLaws.{gather-same, gather-member, gather-rises}
 use Rattle.interface.proofs.ChainLaws.{chain-any-none, any-same}
 use Rattle.interface.proofs.Soundness.{Sound, facts-sound}
 use Rattle.interface.proofs.PlaceFacts.{live-facts}
@@ -33,12 +34,6 @@ use Rattle.interface.proofs.HistoryLaws.{Valid, latest-none, standing-n
 use Rattle.interface.proofs.CutLaws.{below-told, stripped-none}
 use Rattle.interface.proofs.NoteLaws.{told-live, live-holds, cut-follows}
 use Rattle.interface.proofs.TableLaws.{Ends, tables-sized, shown-cap, shown-tables}
-
--- tests that agree below a number gather the same numbers
-pub gather-same : (n : ℕ) (test other : ℕ → Bool) → ((i : ℕ) → i < n → test i ≡ other i) → gather n test ≡ gather n other
-unfolding gather
-gather-same zero test other h = refl
-gather-same (suc n) test other h = rw (gather-same n test other (λ i l. h i (omega arith)), h n (omega arith))
 
 module _ (h : History) (valid : Valid h) where
   -- what a history shows ends where the tables do
@@ -256,6 +251,8 @@ module _ (h : History) (valid : Valid h) (sound : Sound (told h)) where
       record {
         same-state = refl;
         live-held = lives-held;
+        heirs-exact = λ place other. gather-member other places (heir h place);
+        heirs-rise = λ place. gather-rises places (heir h place);
         census-exact = λ place l t list enough. census-shown place list ∙ census-of place l (rw (cap-of place) at t) list enough;
         revoke-exact =
             λ place l t c revokes.

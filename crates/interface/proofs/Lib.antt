@@ -25,12 +25,14 @@ pub mod NoteLaws
 pub mod Sequences
 pub mod TableLaws
 pub mod BootLaws
+pub mod GatherLaws
 pub mod LentOutLaws
 pub mod DemandLaws
 pub mod ConsequenceLaws
 pub mod VerdictLaws
 pub mod LookupLaws
 pub mod DelegationLaws
+pub mod FilledLaws
 pub mod RevocationLaws
 pub mod TransferLaws
 pub mod GrantLaws

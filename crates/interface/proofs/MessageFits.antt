@@ -15,6 +15,7 @@ use Rattle.descriptor.specs.declared.Reading.{Reading}
 use Rattle.descriptor.specs.declared.Reading.the-variants.{Null, Malformed, Good}
 use Rattle.descriptor.specs.declared.Match.{Match}
 use Rattle.descriptor.specs.declared.Match.the-variants.{Both, Neither}
+use Rattle.descriptor.specs.declared.Reply.{Reply}
 use Rattle.descriptor.specs.declared.Reply.the-variants.{ComTim, BadCap, BadPar, BadCpu}
 use Rattle.descriptor.specs.declared.Reason.the-variants.{TypesDiffer}
 use Rattle.descriptor.specs.Descriptors.{Proper}
@@ -25,13 +26,13 @@ use Rattle.interface.specs.Boot.{hypervisor, root}
 use Rattle.interface.specs.Damage.{hasPd, isEc}
 use Rattle.interface.specs.Descriptors.{reading, matched}
 use Rattle.interface.specs.Effects.{run}
-use Rattle.interface.specs.Verdicts.{Call, grant, require_else_then_, effectsOf, callerDomain}
+use Rattle.interface.specs.Verdicts.{Call, Verdict, refuse, grant, require_else_then_, effectsOf, callerDomain}
 use Rattle.interface.specs.Message.{translateWindow, delegateWindow, typedCount, payloadFits, descriptorAt, secondAt, delegateBit, hotspotField, Item, sourceDomain, smallerOrder, raisedBase, delegateItem, translateItem, itemOf, carried, transfer, hypervisorBit}
 use Rattle.interface.specs.PortalCalls.{portalCall}
 use Rattle.interface.proofs.BoolLaws.{either-way}
 use Rattle.interface.proofs.Soundness.{Sound}
 use Rattle.interface.proofs.Steps.{FitInTurn}
-use Rattle.interface.proofs.TurnLaws.{require-fits, same-home, give-fits, PlaceSteps, place-steps-none, place-steps-append, gives-fit}
+use Rattle.interface.proofs.TurnLaws.{require-so, same-home, give-fits, PlaceSteps, place-steps-none, place-steps-append, gives-fit}
 use Rattle.interface.proofs.SoundFacts.{own-record, permitted-kind, portal-ec, home, ec-home}
 
 -- what is read is a proper range, if it is one
@@ -59,21 +60,42 @@ match-proper (Good item) (Good window) p q = same-space (eqb (item .space) (wind
     same-space true e = (p item refl, q window refl, eqb-true (item .space) (window .space) e)
     same-space false e = tt
 
--- the source's domain is the sender's, or domain 0 where the sender is the root
-pub source-either : (sender second : ℕ) → (sourceDomain sender second ≡ sender) ⊎ ((sender ≡ root) × (sourceDomain sender second ≡ hypervisor))
+-- where an item is matched with its window, both were read so
+abbrev pub MatchRead : Reading → Reading → Match → Type 0
+MatchRead read window-read (Neither reason) = Unit {0}
+MatchRead read window-read (Both item window) = (read ≡ Good item) × (window-read ≡ Good window)
+
+pub match-read : (item window : Reading) → MatchRead item window (matched item window)
+unfolding matched
+match-read Null Null = tt
+match-read Null Malformed = tt
+match-read Null (Good window) = tt
+match-read Malformed Null = tt
+match-read Malformed Malformed = tt
+match-read Malformed (Good window) = tt
+match-read (Good item) Null = tt
+match-read (Good item) Malformed = tt
+match-read (Good item) (Good window) =
+    either-way (MatchRead (Good item) (Good window)) (eqb (item .space) (window .space)) (Both item window) (Neither TypesDiffer) (refl, refl) tt
+
+-- the source's domain is the sender's, or domain 0 where H is set and the sender is the root
+pub source-either : (sender second : ℕ) →
+    (sourceDomain sender second ≡ sender) ⊎ ((hypervisorBit second ≡ 1) × (sender ≡ root) × (sourceDomain sender second ≡ hypervisor))
 unfolding sourceDomain
-source-either sender second = choose (eqb (hypervisorBit second) 1) (eqb sender root) (eqb-true sender root)
+source-either sender second =
+    choose (eqb (hypervisorBit second) 1) (eqb sender root) (eqb-true (hypervisorBit second) 1) (eqb-true sender root)
   where
-    choose : (asked is-root : Bool) → (is-root ≡ true → sender ≡ root) →
-        ((if asked && is-root then hypervisor else sender) ≡ sender) ⊎ ((sender ≡ root) × ((if asked && is-root then hypervisor else sender) ≡ hypervisor))
-    choose true true h = inr (h refl, refl)
-    choose true false h = inl refl
-    choose false is-root h = inl refl
+    choose : (asked is-root : Bool) → (asked ≡ true → hypervisorBit second ≡ 1) → (is-root ≡ true → sender ≡ root) →
+        ((if asked && is-root then hypervisor else sender) ≡ sender) ⊎
+        ((hypervisorBit second ≡ 1) × (sender ≡ root) × ((if asked && is-root then hypervisor else sender) ≡ hypervisor))
+    choose true true g h = inr (g refl, h refl, refl)
+    choose true false g h = inl refl
+    choose false is-root g h = inl refl
 
 source-small : (sender second : ℕ) → sender < domains → sourceDomain sender second < domains
 source-small sender second f =
     ⊎-elim (λ (own : sourceDomain sender second ≡ sender). rw own f)
-    (λ (zeroth : (sender ≡ root) × (sourceDomain sender second ≡ hypervisor)). rw (zeroth .1) (omega arith))
+    (λ (zeroth : (hypervisorBit second ≡ 1) × (sender ≡ root) × (sourceDomain sender second ≡ hypervisor)). rw (zeroth .2) (omega arith))
     (source-either sender second)
 
 -- a matched item's delegations lie in its range and in its window
@@ -91,7 +113,7 @@ delegate-fits s sender receiver second (Both item window) f l h p =
     let window-ends = subst (λ (space : ℕ). window .base + 2 ^ window .order ≤ selectors space) (sym (p .2)) (p .1 .ends-inside) in
     let item-within = ends-inside (item .order) o hotspot (item .base) (omega arith) in
     let window-within = ends-inside (window .order) o hotspot (window .base) (omega arith) in
-    gives-fit (λ i. placeOf receiver (item .space) (window-base + i)) (λ i. placeOf from (item .space) (item-base + i)) (λ i. item .mask) (2 ^ o) s
+    gives-fit (λ i. placeOf receiver (item .space) (window-base + i)) (λ i. placeOf from (item .space) (item-base + i)) _ (2 ^ o) s
     (λ i b.
     give-fits s from receiver (item .space) (window-base + i) (item-base + i) (source-small sender second f) l (p .0 .space-small) (omega arith) (omega arith) h)
 
@@ -126,31 +148,41 @@ carried-fits s sender receiver source target f l h (suc i) =
     place-steps-append before (itemOf now sender receiver source target i .effects) s ih
     (item-fits now sender receiver source target i f l (same-home s now receiver (ih .objects-stay) h))
 
+-- what holds of every refusal, and of a transfer to the EC of a permitted portal, holds of CALL
+pub call-so : (P : Verdict → Type 0) (s : State) (c : Call) → ((reply : Reply) → P (refuse reply)) →
+    let portal = objectPlace (callerDomain s c) (c .first) in
+    let moved = transfer s (callerDomain s c) (s .objects (s .objects (objectIn s portal) ecWord) domainWord) (c .source) (c .target) in
+    (permitted s portal PT callBit ≡ true → P (grant (moved .filled) (moved .effects) (moved .block))) → P (portalCall s c)
+unfolding portalCall
+call-so P s c refused f =
+    let portal = objectPlace (callerDomain s c) (c .first) in
+    let callee = s .objects (objectIn s portal) ecWord in
+    let moved = transfer s (callerDomain s c) (s .objects callee domainWord) (c .source) (c .target) in
+    let granted = grant (moved .filled) (moved .effects) (moved .block) in
+    let with-payload = require payloadFits (word (c .source) 0) else BadPar then granted in
+    let with-cpu = require eqb (s .objects callee cpuWord) (s .objects (c .caller) cpuWord) else BadCpu then with-payload in
+    let with-callee = require not (eqb callee (c .caller)) else ComTim then with-cpu in
+    let with-portal = require permitted s portal PT callBit else BadCap then with-callee in
+    let blocks = eqb (length (c .source)) blockWords && eqb (length (c .target)) blockWords in
+    require-so P blocks BadPar with-portal (refused BadPar)
+    (λ _.
+    require-so P (permitted s portal PT callBit) BadCap with-callee (refused BadCap)
+    (λ p.
+    require-so P (not (eqb callee (c .caller))) ComTim with-cpu (refused ComTim)
+    (λ _.
+    require-so P (eqb (s .objects callee cpuWord) (s .objects (c .caller) cpuWord)) BadCpu with-payload (refused BadCpu)
+    (λ _. require-so P (payloadFits (word (c .source) 0)) BadPar granted (refused BadPar) (λ _. f p)))))
+
 -- the receiver is the portal's EC, whose domain has a PD
 pub call-fits : (s : State) (c : Call) → Sound s → isEc s (c .caller) ≡ true → FitInTurn (effectsOf (portalCall s c)) s
-unfolding portalCall
 call-fits s c k e =
     let here = callerDomain s c in
     let portal = objectPlace here (c .first) in
     let callee = s .objects (objectIn s portal) ecWord in
     let there = s .objects callee domainWord in
-    let moved = transfer s here there (c .source) (c .target) in
-    let with-payload = require payloadFits (word (c .source) 0) else BadPar then grant (moved .filled) (moved .effects) (moved .block) in
-    let with-cpu = require eqb (s .objects callee cpuWord) (s .objects (c .caller) cpuWord) else BadCpu then with-payload in
-    let with-callee = require not (eqb callee (c .caller)) else ComTim then with-cpu in
-    let with-portal = require permitted s portal PT callBit else BadCap then with-callee in
-    let blocks = eqb (length (c .source)) blockWords && eqb (length (c .target)) blockWords in
-    require-fits s blocks BadPar with-portal
-    (λ _.
-    require-fits s (permitted s portal PT callBit) BadCap with-callee
+    call-so (λ (verdict : Verdict). FitInTurn (effectsOf verdict) s) s c (λ reply. tt)
     (λ p.
-    require-fits s (not (eqb callee (c .caller))) ComTim with-cpu
-    (λ _.
-    require-fits s (eqb (s .objects callee cpuWord) (s .objects (c .caller) cpuWord)) BadCpu with-payload
-    (λ _.
-    require-fits s (payloadFits (word (c .source) 0)) BadPar (grant (moved .filled) (moved .effects) (moved .block))
-    (λ _.
     let is-callee = portal-ec s k (objectIn s portal) (own-record s k (c .caller) (c .first) PT callBit e p) (permitted-kind s portal PT callBit p) in
     let at-home = ec-home s k callee is-callee in
     carried-fits s here there (c .source) (c .target) (home s k here (ec-home s k (c .caller) e) .small) (home s k there at-home .small) at-home
-    (typedCount (word (c .source) 0)) .fit)))))
+    (typedCount (word (c .source) 0)) .fit)

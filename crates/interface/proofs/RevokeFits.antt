@@ -8,18 +8,19 @@ use borrow.Author.Tests.{leb-true}
 use Rattle.words.specs.Sizes.{placeOf}
 use Rattle.descriptor.specs.declared.Reading.{Reading}
 use Rattle.descriptor.specs.declared.Reading.the-variants.{Null, Malformed, Good}
+use Rattle.descriptor.specs.declared.Reply.{Reply}
 use Rattle.descriptor.specs.declared.Reply.the-variants.{BadPar}
 use Rattle.interface.specs.Places.{State}
 use Rattle.interface.specs.Boot.{hypervisor}
 use Rattle.interface.specs.Damage.{isEc}
 use Rattle.interface.specs.Descriptors.{reading, malformed}
-use Rattle.interface.specs.Verdicts.{Call, grant, require_else_then_, effectsOf, callerDomain}
+use Rattle.interface.specs.Verdicts.{Call, Verdict, refuse, grant, require_else_then_, effectsOf, callerDomain}
 use Rattle.interface.specs.Revoke.{cuts, revoke}
 use Rattle.interface.proofs.BoolLaws.{and-left}
 use Rattle.interface.proofs.Soundness.{Sound}
 use Rattle.interface.proofs.Steps.{FitInTurn}
 use Rattle.interface.proofs.PlaceFacts.{home-not-hypervisor}
-use Rattle.interface.proofs.TurnLaws.{require-fits}
+use Rattle.interface.proofs.TurnLaws.{require-so}
 use Rattle.interface.proofs.SoundFacts.{ec-home}
 
 -- a range of a domain other than 0 begins past domain 0
@@ -34,13 +35,18 @@ cuts-fit s domain self (Good range) h =
       tt,
     )
 
+-- what holds of every refusal, and of the steps of the descriptor's revocation, holds of REVOKE
+pub revoke-so : (P : Verdict → Type 0) (s : State) (c : Call) → ((reply : Reply) → P (refuse reply)) →
+    P (grant 0 (cuts (callerDomain s c) (eqb (c .second) 1) (reading (c .first))) (c .target)) → P (revoke s c)
+unfolding revoke
+revoke-so P s c refused f =
+    let read = reading (c .first) in
+    let granted = grant 0 (cuts (callerDomain s c) (eqb (c .second) 1) read) (c .target) in
+    require-so P (leb (c .second) 1) BadPar (require not (malformed read) else BadPar then granted) (refused BadPar)
+    (λ _. require-so P (not (malformed read)) BadPar granted (refused BadPar) (λ _. f))
+
 -- the caller's domain has a PD, so it is not domain 0
 pub revoke-fits : (s : State) (c : Call) → Sound s → isEc s (c .caller) ≡ true → FitInTurn (effectsOf (revoke s c)) s
-unfolding revoke
 revoke-fits s c k e =
-    let read = reading (c .first) in
-    let steps = cuts (callerDomain s c) (eqb (c .second) 1) read in
-    require-fits s (leb (c .second) 1) BadPar (require not (malformed read) else BadPar then grant 0 steps (c .target))
-    (λ _.
-    require-fits s (not (malformed read)) BadPar (grant 0 steps (c .target))
-    (λ _. cuts-fit s (callerDomain s c) (eqb (c .second) 1) read (home-not-hypervisor s (callerDomain s c) k (ec-home s k (c .caller) e))))
+    revoke-so (λ (verdict : Verdict). FitInTurn (effectsOf verdict) s) s c (λ reply. tt)
+    (cuts-fit s (callerDomain s c) (eqb (c .second) 1) (reading (c .first)) (home-not-hypervisor s (callerDomain s c) k (ec-home s k (c .caller) e)))

@@ -1,25 +1,27 @@
 -- Whatever a rule grants, its steps fit the state in turn.
 use Prim.Native.Nat.{ℕ}
 use mathlib.Core.Path.{_≡_}
-use mathlib.Core.Bool.{true, not}
+use mathlib.Core.Bool.{true, false, not}
 use mathlib.Core.List.{[]}
 use lib.Dec.{eqb}
+use borrow.Author.Tests.{eqb-true}
+use Rattle.descriptor.specs.declared.Reply.{Reply}
 use Rattle.descriptor.specs.declared.Reply.the-variants.{Damaged, BadPar, BadCaller}
 use Rattle.interface.specs.Basics.{if_then_else_}
 use Rattle.interface.specs.Places.{State}
 use Rattle.interface.specs.Damage.{isEc, soundState}
 use Rattle.interface.specs.Descriptors.{reading, malformed}
-use Rattle.interface.specs.Verdicts.{Call, Verdict, grant, effectsOf, callerDomain}
+use Rattle.interface.specs.Verdicts.{Call, CALL, CREATE-PD, CREATE-EC, CREATE-SC, CREATE-PT, CREATE-SM, REVOKE, LOOKUP, SM-CTRL, Verdict, refuse, grant, effectsOf, callerDomain}
 use Rattle.interface.specs.Creations.{createPd, createEc, createSc, createPt, createSm}
 use Rattle.interface.specs.Revoke.{revoke}
 use Rattle.interface.specs.Lookup.{found, lookup}
 use Rattle.interface.specs.Semaphores.{smCtrl}
 use Rattle.interface.specs.PortalCalls.{portalCall}
 use Rattle.interface.specs.Rules.{Built, rule, not-built, hypercall, called, rules}
-use Rattle.interface.proofs.BoolLaws.{either-way}
+use Rattle.interface.proofs.BoolLaws.{cases}
 use Rattle.interface.proofs.Soundness.{Sound, sound-facts}
 use Rattle.interface.proofs.Steps.{FitInTurn}
-use Rattle.interface.proofs.TurnLaws.{require-fits}
+use Rattle.interface.proofs.TurnLaws.{require-so, require-fits}
 use Rattle.interface.proofs.RevokeFits.{revoke-fits}
 use Rattle.interface.proofs.SemaphoresFit.{semaphore-fits}
 use Rattle.interface.proofs.CreationsFit.{pd-creation-fits, ec-creation-fits, sc-creation-fits, pt-creation-fits, sm-creation-fits}
@@ -31,32 +33,37 @@ unfolding lookup
 lookup-fits s c =
     require-fits s (not (malformed (reading (c .first)))) BadPar (grant (found s (callerDomain s c) (reading (c .first))) [] (c .target)) (λ _. tt)
 
-module _ (s : State) (c : Call) (k : Sound s) where
-  -- the steps of what a number stands for fit
-  abbrev BuiltFits : Built → Type 0
-  BuiltFits built = FitInTurn (effectsOf (called s c built)) s
+-- one number's rule, of which something holds where the caller is an EC, and what the other numbers stand for
+pub or-else : (P : Verdict → Type 0) (s : State) (c : Call) → ((reply : Reply) → P (refuse reply)) → (number : ℕ) (verdict : State → Call → Verdict) (others : Built) →
+    (isEc s (c .caller) ≡ true → c .number ≡ number → P (verdict s c)) → P (called s c others) →
+    P (called s c (if eqb (c .number) number then rule verdict else others))
+unfolding called
+or-else P s c refused number verdict others f g =
+    cases (eqb (c .number) number)
+    (λ (t : eqb (c .number) number ≡ true).
+    rw t (require-so P (isEc s (c .caller)) BadCaller (verdict s c) (refused BadCaller) (λ e. f e (eqb-true (c .number) number t))))
+    (λ (n : eqb (c .number) number ≡ false). rw n g)
 
-  -- one number's rule, whose steps fit where the caller is an EC, and what the other numbers stand for
-  or-else : (number : ℕ) (verdict : State → Call → Verdict) (others : Built) → (isEc s (c .caller) ≡ true → FitInTurn (effectsOf (verdict s c)) s) →
-      BuiltFits others → BuiltFits (if eqb (c .number) number then rule verdict else others)
-  unfolding called
-  or-else number verdict others f g =
-      either-way (λ (built : Built). BuiltFits built) (eqb (c .number) number) (rule verdict) others
-      (require-fits s (isEc s (c .caller)) BadCaller (verdict s c) f) g
+module _ (s : State) (c : Call) (k : Sound s) where
+  -- one number's rule whose steps fit, and what the other numbers stand for
+  fits-else : (number : ℕ) (verdict : State → Call → Verdict) (others : Built) → (isEc s (c .caller) ≡ true → FitInTurn (effectsOf (verdict s c)) s) →
+      FitInTurn (effectsOf (called s c others)) s → FitInTurn (effectsOf (called s c (if eqb (c .number) number then rule verdict else others))) s
+  fits-else number verdict others f =
+      or-else (λ (v : Verdict). FitInTurn (effectsOf v) s) s c (λ reply. tt) number verdict others (λ e n. f e)
 
   -- the rule of every number
-  hypercall-fits : BuiltFits (hypercall (c .number))
+  hypercall-fits : FitInTurn (effectsOf (called s c (hypercall (c .number)))) s
   unfolding hypercall called
   hypercall-fits =
-      or-else 0 portalCall _ (call-fits s c k)
-      (or-else 2 createPd _ (pd-creation-fits s c k)
-      (or-else 3 createEc _ (ec-creation-fits s c k)
-      (or-else 4 createSc _ (sc-creation-fits s c k)
-      (or-else 5 createPt _ (pt-creation-fits s c k)
-      (or-else 6 createSm _ (sm-creation-fits s c k)
-      (or-else 7 revoke _ (revoke-fits s c k)
-      (or-else 8 lookup _ (λ _. lookup-fits s c)
-      (or-else 11 smCtrl not-built (semaphore-fits s c k)
+      fits-else CALL portalCall _ (call-fits s c k)
+      (fits-else CREATE-PD createPd _ (pd-creation-fits s c k)
+      (fits-else CREATE-EC createEc _ (ec-creation-fits s c k)
+      (fits-else CREATE-SC createSc _ (sc-creation-fits s c k)
+      (fits-else CREATE-PT createPt _ (pt-creation-fits s c k)
+      (fits-else CREATE-SM createSm _ (sm-creation-fits s c k)
+      (fits-else REVOKE revoke _ (revoke-fits s c k)
+      (fits-else LOOKUP lookup _ (λ _. lookup-fits s c)
+      (fits-else SM-CTRL smCtrl not-built (semaphore-fits s c k)
       tt))))))))
 
 -- every rule tests first that the state is sound

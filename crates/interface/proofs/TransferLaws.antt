@@ -10,26 +10,33 @@ use Rattle.interface.specs.Descriptors.{reading, matched}
 use Rattle.interface.specs.Effects.{Effect, givenCaps, act, run, fillsOne, filled}
 use Rattle.interface.specs.Message.{translateWindow, delegateWindow, descriptorAt, secondAt, delegateItem, translateItem, itemOf, carried}
 use Rattle.interface.proofs.MessageFits.{MatchProper, match-proper}
-use Rattle.interface.proofs.DelegationLaws.{OnlyGives, gives-none, gives-more, delegate-gives, item-gives, carried-gives}
+use Rattle.interface.proofs.DelegationLaws.{OnlyGives, gives-none, gives-more, ItemAsks, delegate-gives, item-gives, carried-gives}
 use Rattle.descriptor.proofs.DescriptorLaws.{good-proper}
 
 -- a state by its two parts
 abbrev pub stateOf : (ℕ → Cap) → (ℕ → ℕ → ℕ) → State
 stateOf caps objects = record { caps = caps; objects = objects }
 
+-- any delegation, and any item that asks for some
+abbrev AnyGive : ℕ → ℕ → ℕ → Type 0
+AnyGive place source mask = Unit {0}
+
+any-item : (sender receiver : ℕ) (source target : List ℕ) (i : ℕ) → ItemAsks AnyGive sender receiver source target i
+any-item sender receiver source target i item window bit read window-read same place from own inside at to = tt
+
 module _ (objects others : ℕ → ℕ → ℕ) where
   -- delegations do the same to the places, and leave the objects
-  pub gives-anywhere : {sender : ℕ} {effects : List Effect} → OnlyGives sender effects → (caps : ℕ → Cap) →
+  pub gives-anywhere : {Ask : ℕ → ℕ → ℕ → Type 0} {effects : List Effect} → OnlyGives Ask effects → (caps : ℕ → Cap) →
       run effects (stateOf caps objects) ≡ stateOf (run effects (stateOf caps others) .caps) objects
   unfolding run act
   gives-anywhere gives-none caps = refl
-  gives-anywhere (gives-more destination source mask own more) caps = gives-anywhere more (givenCaps caps destination source mask)
+  gives-anywhere (gives-more destination source mask ask more) caps = gives-anywhere more (givenCaps caps destination source mask)
 
-  filled-anywhere : {sender : ℕ} {effects : List Effect} → OnlyGives sender effects → (caps : ℕ → Cap) →
+  filled-anywhere : {Ask : ℕ → ℕ → ℕ → Type 0} {effects : List Effect} → OnlyGives Ask effects → (caps : ℕ → Cap) →
       filled effects (stateOf caps objects) ≡ filled effects (stateOf caps others)
   unfolding filled act fillsOne
   filled-anywhere gives-none caps = refl
-  filled-anywhere (gives-more destination source mask own more) caps = rw (filled-anywhere more (givenCaps caps destination source mask))
+  filled-anywhere (gives-more destination source mask ask more) caps = rw (filled-anywhere more (givenCaps caps destination source mask))
 
   -- so does an item
   delegated-anywhere : (caps : ℕ → Cap) (sender receiver second : ℕ) (match : Match) → MatchProper match →
@@ -37,7 +44,7 @@ module _ (objects others : ℕ → ℕ → ℕ) where
   unfolding delegateItem
   delegated-anywhere caps sender receiver second (Neither reason) p = refl
   delegated-anywhere caps sender receiver second (Both item window) p =
-      rw (filled-anywhere (delegate-gives (stateOf caps objects) sender receiver second (Both item window) p) caps)
+      rw (filled-anywhere (delegate-gives AnyGive (stateOf caps objects) sender receiver second item window p (λ place source own from at to. tt)) caps)
 
   translated-anywhere : (caps : ℕ → Cap) (sender receiver : ℕ) (match : Match) →
       translateItem (stateOf caps objects) sender receiver match ≡ translateItem (stateOf caps others) sender receiver match
@@ -64,7 +71,7 @@ unfolding carried
 carried-anywhere objects others caps sender receiver source target zero = refl
 carried-anywhere objects others caps sender receiver source target (suc i) =
     let before = carried (stateOf caps others) sender receiver source target i in
-    let steps = carried-gives (stateOf caps others) sender receiver source target i in
+    let steps = carried-gives AnyGive (stateOf caps others) sender receiver source target i (λ j l. any-item sender receiver source target j) in
     let same = carried-anywhere objects others caps sender receiver source target i in
     let left = run (before .effects) (stateOf caps others) .caps in
     let here : run (before .effects) (stateOf caps objects) ≡ stateOf left objects = gives-anywhere objects others steps caps in
@@ -74,5 +81,5 @@ carried-anywhere objects others caps sender receiver source target (suc i) =
       here,
       there,
       item-anywhere objects others left sender receiver source target i,
-      filled-anywhere objects others (item-gives (stateOf left others) sender receiver source target i) left,
+      filled-anywhere objects others (item-gives AnyGive (stateOf left others) sender receiver source target i (any-item sender receiver source target i)) left,
     )

@@ -11,7 +11,7 @@ use Rattle.interface.specs.Basics.{listed}
 use Rattle.interface.specs.Places.{State}
 use Rattle.interface.specs.Damage.{hasPd}
 use Rattle.interface.specs.Effects.{Effect, give, fills, act, run}
-use Rattle.interface.specs.Verdicts.{Verdict, require_else_then_, effectsOf}
+use Rattle.interface.specs.Verdicts.{Verdict, refuse, require_else_then_, effectsOf}
 use Rattle.interface.proofs.BoolLaws.{cases}
 use Rattle.interface.proofs.PutLaws.{put-other}
 use Rattle.interface.proofs.Steps.{GiveFits, FitInTurn}
@@ -27,11 +27,16 @@ unfolding run
 fit-append [] ys s f g = g
 fit-append (x ∷ xs) ys s f g = (f .0, fit-append xs ys (act x s) (f .1) g)
 
--- a check of a rule: the steps fit where they do once its test holds, and a refused call has none
+-- a check of a rule: what holds of the refusal, and of what follows once the test holds, holds of the check
+pub require-so : (P : Verdict → Type 0) (test : Bool) (reply : Reply) (next : Verdict) → P (refuse reply) → (test ≡ true → P next) →
+    P (require test else reply then next)
+require-so P true reply next r f = f refl
+require-so P false reply next r f = r
+
+-- its steps fit where they do once its test holds, and a refused call has none
 pub require-fits : (s : State) (test : Bool) (reply : Reply) (next : Verdict) → (test ≡ true → FitInTurn (effectsOf next) s) →
     FitInTurn (effectsOf (require test else reply then next)) s
-require-fits s true reply next f = f refl
-require-fits s false reply next f = tt
+require-fits s test reply next f = require-so (λ (verdict : Verdict). FitInTurn (effectsOf verdict) s) test reply next tt f
 
 -- whether a domain has a PD depends on the records alone
 pub same-home : (s t : State) (domain : ℕ) → t .objects ≡ s .objects → hasPd s domain ≡ true → hasPd t domain ≡ true

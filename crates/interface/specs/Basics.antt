@@ -59,3 +59,12 @@ all test (a ∷ list) = test a && all test list
 unfoldable pub any : {A : Type 0} → (A → Bool) → List A → Bool
 any test [] = false
 any test (a ∷ list) = test a || any test list
+
+-- whether a number is a member of a list
+unfoldable pub member : ℕ → List ℕ → Bool
+member number list = any (eqb number) list
+
+-- whether a list of numbers rises, each number once: each member is below every one after it
+unfoldable pub rising : List ℕ → Bool
+rising [] = true
+rising (a ∷ list) = all (ltb a) list && rising list

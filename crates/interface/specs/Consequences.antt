@@ -5,7 +5,7 @@ use mathlib.Core.Logic.{_↔_, _⊎_}
 use mathlib.Core.Bool.{Bool, true, false, not, _||_, _&&_}
 use mathlib.Core.List.{List, [], _∷_}
 use lib.Dec.{eqb}
-use Rattle.words.specs.Sizes.{placeOf, domainOf, greatestOrder}
+use Rattle.words.specs.Sizes.{object, placeOf, domainOf, spaceOf, selectorOf, greatestOrder}
 use Rattle.words.specs.Permissions.{within}
 use Rattle.words.specs.Ranges.{rounded}
 use Rattle.descriptor.specs.Replies.{statusOf}
@@ -13,14 +13,16 @@ use Rattle.descriptor.specs.declared.Range.{Range}
 use Rattle.descriptor.specs.declared.Reading.{Reading}
 use Rattle.descriptor.specs.declared.Reading.the-variants.{Null, Malformed, Good}
 use Rattle.descriptor.specs.declared.Reply.the-variants.{Damaged}
-use Rattle.interface.specs.Basics.{if_then_else_}
-use Rattle.interface.specs.Places.{Cap, State, Tables, live, tablesOf}
+use Rattle.interface.specs.Basics.{if_then_else_, word}
+use Rattle.interface.specs.Places.{Cap, State, Tables, live, parentless, free, PD, EC, SC, PT, SM, domainWord, ecWord, kindOf, greatestOf, objectPlace, objectIn, tablesOf}
 use Rattle.interface.specs.Boot.{boot, hypervisor, root}
 use Rattle.interface.specs.Damage.{soundState, sound, isEc}
 use Rattle.interface.specs.Descriptors.{describe, reading, malformed}
 use Rattle.interface.specs.Effects.{Effect, give, among, below, stripped}
-use Rattle.interface.specs.Verdicts.{Call, CALL, REVOKE, LOOKUP, callerDomain, grant, effectsOf}
+use Rattle.interface.specs.Verdicts.{Call, CALL, CREATE-PD, REVOKE, LOOKUP, callerDomain, grant, effectsOf}
+use Rattle.interface.specs.Creations.{newPlace, freeRecord, nextDomain}
 use Rattle.interface.specs.Lookup.{spaceCaps}
+use Rattle.interface.specs.Message.{delegateWindow, typedCount, descriptorAt, secondAt, delegateBit, hypervisorBit}
 use Rattle.interface.specs.Rules.{rules, after, hypercallReply, hypercallBlock, hypercallTables}
 use Rattle.interface.specs.Census.{census}
 use Rattle.interface.specs.History.{Event}
@@ -99,19 +101,77 @@ pub record GivenFrom (after : State) (place source mask : ℕ) : Type 0 where
   pub within-mask : within (after .caps place .permissions) mask ≡ true
   pub deeper : after .caps place .depth ≡ after .caps source .depth + 1
 
--- whose place a caller may delegate from: one of its own domain, or one of domain 0 where the caller is the root
-abbrev pub OwnSource : ℕ → ℕ → Type 0
-OwnSource domain source = (domainOf source ≡ domain) ⊎ ((domain ≡ root) × (domainOf source ≡ hypervisor))
+-- whose place an item may delegate from: one of the caller's domain, or one of domain 0 where the item's second word sets H and the caller is the root
+abbrev pub OwnSource : ℕ → ℕ → ℕ → Type 0
+OwnSource domain second source =
+    (domainOf source ≡ domain) ⊎ ((hypervisorBit second ≡ 1) × (domain ≡ root) × (domainOf source ≡ hypervisor))
 
--- Delegation adds no permission: CALL overwrites no live place, and each place that it fills is delegated to by one of its steps and has permissions within its source's and
--- within the step's mask; the source is the caller's, or domain 0's where the caller is the root
-abbrev pub AddsNoPermission : Type 0
-AddsNoPermission =
-    (s : State) (c : Call) → c .number ≡ CALL → (place : ℕ) →
-    (live (s .caps place) ≡ true → after s c .caps place ≡ s .caps place) ×
-    (live (s .caps place) ≡ false → live (after s c .caps place) ≡ true →
-    (source : ℕ) × (mask : ℕ) × Delegates place source mask (effectsOf (rules s c)) × OwnSource (callerDomain s c) source ×
-    GivenFrom (after s c) place source mask)
+-- a place lies in a range, in whatever domain
+pub record LiesIn (range : Range) (place : ℕ) : Type 0 where
+  pub of-space : spaceOf place ≡ range .space
+  pub from-base : range .base ≤ selectorOf place
+  pub before-end : selectorOf place < range .base + 2 ^ range .order
+
+-- the domain of the EC that CALL's portal names
+abbrev pub calleeDomain : State → Call → ℕ
+calleeDomain s c = s .objects (s .objects (objectIn s (objectPlace (callerDomain s c) (c .first))) ecWord) domainWord
+
+-- CALL's message asks for a delegation: an item that word 0 counts sets the delegate bit; its descriptor and the callee's delegate window are read as ranges of one space; the
+-- source lies in the item's range, and the caller may delegate from it; the place lies in the window, in the callee's domain; and the mask is the item's
+pub record AskedByItem (s : State) (c : Call) (place source mask : ℕ) : Type 0 where
+  pub is-call : c .number ≡ CALL
+  pub item : ℕ
+  pub is-item : item < typedCount (word (c .source) 0)
+  pub asks-delegate : delegateBit (word (c .source) (secondAt item)) ≡ 1
+  pub range : Range
+  pub item-read : reading (word (c .source) (descriptorAt item)) ≡ Good range
+  pub window : Range
+  pub window-read : reading (word (c .target) delegateWindow) ≡ Good window
+  pub same-space : range .space ≡ window .space
+  pub own-source : OwnSource (callerDomain s c) (word (c .source) (secondAt item)) source
+  pub source-inside : LiesIn range source
+  pub callee-place : domainOf place ≡ calleeDomain s c
+  pub place-inside : LiesIn window place
+  pub item-mask : mask ≡ range .mask
+
+-- CREATE_PD asks for a delegation: its initial descriptor is read as a range of objects; the source lies in that, in the caller's domain; the place is the one of the same
+-- selector in the new PD's domain; and the mask is the range's
+pub record AskedByRange (s : State) (c : Call) (place source mask : ℕ) : Type 0 where
+  pub is-create-pd : c .number ≡ CREATE-PD
+  pub range : Range
+  pub range-read : reading (c .third) ≡ Good range
+  pub of-objects : range .space ≡ object
+  pub own-source : domainOf source ≡ callerDomain s c
+  pub source-inside : LiesIn range source
+  pub new-domain : domainOf place ≡ nextDomain s
+  pub same-space : spaceOf place ≡ spaceOf source
+  pub same-selector : selectorOf place ≡ selectorOf source
+  pub range-mask : mask ≡ range .mask
+
+-- the kind of object that a call of a number creates, and 0 for a number that creates none
+abbrev pub kindCreated : ℕ → ℕ
+kindCreated number = word (free ∷ free ∷ PD ∷ EC ∷ SC ∷ PT ∷ SM ∷ []) number
+
+-- a place holds what a call created: the place is that of the new selector, and has the greatest permissions of the created kind, and no parent, for a record that was free
+pub record CreatedAt (s : State) (c : Call) (later : State) (place : ℕ) : Type 0 where
+  pub is-creation : kindCreated (c .number) ≡ free → ⊥
+  pub new-place : place ≡ newPlace s c
+  pub was-free : kindOf s (freeRecord s) ≡ free
+  pub of-kind : kindOf later (freeRecord s) ≡ kindCreated (c .number)
+  pub holds-greatest : later .caps place ≡ parentless (freeRecord s) (greatestOf (kindCreated (c .number)))
+
+-- how a call, with its steps and the state after it, came to fill a null place: by a delegation that its message or its initial range asks for, or by creating an object
+pub data FilledBy (s : State) (c : Call) (steps : List Effect) (later : State) (place : ℕ) : Type 0 where
+  by-delegation : (source mask : ℕ) → AskedByItem s c place source mask ⊎ AskedByRange s c place source mask → Delegates place source mask steps →
+      GivenFrom later place source mask → FilledBy s c steps later place
+  by-creation : CreatedAt s c later place → FilledBy s c steps later place
+
+-- Delegation adds no permission: no call but REVOKE changes a live place; and a null place that is live after a call was filled by a delegation that the call asks for, with
+-- permissions within its source's and within the mask of the item or of the initial range, or holds the object that the call created
+pub record AddsNoPermission : Type 0 where
+  pub live-stays : (s : State) (c : Call) → (c .number ≡ REVOKE → ⊥) → (place : ℕ) → live (s .caps place) ≡ true → after s c .caps place ≡ s .caps place
+  pub filled-so : (s : State) (c : Call) (place : ℕ) → live (s .caps place) ≡ false → live (after s c .caps place) ≡ true →
+      FilledBy s c (effectsOf (rules s c)) (after s c) place
 
 -- Revocation is exact: after a REVOKE that is not refused a place has its old permissions without the mask if it is a strict descendant of a place in the range, or in the range
 -- with self 1, and its old ones otherwise; nothing else of it moves, except that a place left with none is null; and no object moves

@@ -1,7 +1,7 @@
 -- Demand 3: what was lent out, over any sequence of events from boot.
 use Prim.Native.Nat.{ℕ, _<_, _≤_}
 use mathlib.Core.Path.{_≡_}
-use mathlib.Core.Bool.{true}
+use mathlib.Core.Bool.{true, _&&_}
 use mathlib.Core.List.{List, [], _∷_, _++_}
 use lib.Dec.{ltb}
 use lib.ListN.{length, drop}
@@ -9,7 +9,7 @@ use Rattle.words.specs.Sizes.{domainOf, spaceOf, selectorOf, places}
 use Rattle.descriptor.specs.declared.Range.{Range}
 use Rattle.descriptor.specs.declared.Reading.the-variants.{Good}
 use Rattle.descriptor.specs.declared.Reply.the-variants.{Success}
-use Rattle.interface.specs.Basics.{if_then_else_}
+use Rattle.interface.specs.Basics.{if_then_else_, member, rising}
 use Rattle.interface.specs.Places.{State, Tables, live, nothing, domainWord, capAt, tablesOf, shown}
 use Rattle.interface.specs.Boot.{boot}
 use Rattle.interface.specs.Damage.{isEc}
@@ -50,6 +50,9 @@ pub record LentOut (tables : Tables) (h : History) : Type 0 where
   pub same-state : tables ≡ tablesOf (told h)
   -- a place is live exactly when it holds a filling
   pub live-held : (place : ℕ) → place < places → live (capAt (tables .places) place) ≡ ltb 0 (held h place)
+  -- the list of a place's heirs has each of them and no other number, rising by place number, each once
+  pub heirs-exact : (place other : ℕ) → member other (heirs h place) ≡ (ltb other places && heir h place other)
+  pub heirs-rise : (place : ℕ) → rising (heirs h place) ≡ true
   -- the census of a live place, given a word for each heir or more, succeeds with their number; its first words are the heirs, and its others stay
   pub census-exact : (place : ℕ) → place < places → live (capAt (tables .places) place) ≡ true → (list : List ℕ) → length (heirs h place) ≤ length list →
       census tables place list ≡ record { reply = Success (length (heirs h place)); list = heirs h place ++ drop (length (heirs h place)) list }

@@ -34,7 +34,7 @@ pub fn granted_where_due()
     ensures { λ r. ⌜ GrantedWhereDue ⌝ }
 {}
 
-// Delegation adds no permission.
+// Delegation adds no permission: no call but REVOKE changes a live place, and what a call fills was delegated as it asks, or is what it created.
 pub fn adds_no_permission()
     ensures { λ r. ⌜ AddsNoPermission ⌝ }
 {}
