@@ -20,11 +20,11 @@ fn grown(seed: u64) -> Words {
 fn journals_agree() -> Result<(), Difference> {
     let mut all = Comparison::new(1);
     for kind in Kind::ALL {
-        for seed in 100..106 {
+        for seed in 100..112 {
             all.journal(&journal(kind, seed, 300))?;
         }
     }
-    assert!(all.hypercalls >= 42 * 300);
+    assert!(all.hypercalls >= 84 * 300);
     for status in [0, 1, 4, 5, 7, 16, 18] {
         assert!(all.statuses.keys().any(|&(_, seen)| seen == status), "status {status}");
     }
@@ -37,7 +37,7 @@ fn journals_agree() -> Result<(), Difference> {
 #[test]
 fn calls_with_any_words_agree() -> Result<(), Difference> {
     let mut all = Comparison::new(2);
-    for seed in 0..160 {
+    for seed in 0..300 {
         let mut tables = grown(seed);
         for _ in 0..120 {
             all.loose_call(&mut tables)?;
@@ -54,7 +54,7 @@ fn calls_with_any_words_agree() -> Result<(), Difference> {
 #[test]
 fn damage_agrees_and_refuses_every_call() -> Result<(), Difference> {
     let mut all = Comparison::new(3);
-    for seed in 0..30 {
+    for seed in 0..60 {
         let tables = grown(seed);
         for _ in 0..700 {
             all.spoilt(&tables)?;
@@ -69,7 +69,7 @@ fn damage_agrees_and_refuses_every_call() -> Result<(), Difference> {
 #[test]
 fn censuses_agree_with_lists_of_every_length() -> Result<(), Difference> {
     let mut all = Comparison::new(4);
-    for seed in 0..20 {
+    for seed in 0..60 {
         let tables = grown(seed);
         for _ in 0..150 {
             all.censuses(&tables)?;
@@ -90,9 +90,9 @@ fn boot_agrees_on_tables_of_any_length() -> Result<(), Difference> {
 #[test]
 fn rounds_agree() -> Result<(), Difference> {
     let mut all = Comparison::new(6);
-    for _ in 0..10 {
+    for _ in 0..20 {
         all.round(400)?;
     }
-    assert!(all.hypercalls >= 4_000 && all.censuses >= 4_000 && all.parts >= 3_000);
+    assert!(all.hypercalls >= 8_000 && all.censuses >= 8_000 && all.parts >= 6_000);
     Ok(())
 }

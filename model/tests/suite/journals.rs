@@ -10,7 +10,7 @@ use std::path::PathBuf;
 use model::descriptor::{Descriptor, Range};
 use model::journal::{lines, Machine, Record, Replay, Step};
 use model::stored::{Source, STORED};
-use model::tables::{Domain, Place};
+use model::tables::{Domain, Place, Selector, Space};
 use model::{Hypercall, Status};
 
 use crate::generator::every_status_of_every_call;
@@ -115,6 +115,14 @@ struct Features {
     new_selector_in_initial_range: u32,
 }
 
+/// An item and the window that its kind uses, in one space, between two domains.
+struct Transfer {
+    sender: Domain,
+    receiver: Domain,
+    item: Range,
+    window: Range,
+}
+
 fn row(machine: &Machine, place: Place) -> [u32; 4] {
     let start = place.number() as usize * 4;
     std::array::from_fn(|word| machine.places[start + word])
@@ -213,36 +221,32 @@ impl Features {
     /// The items of a message, each on the tables that the one before left.
     fn message(&mut self, before: &Machine, record: &Record) {
         let sender = domain_of(before, record.caller);
-        let typed = record.source[0] >> 16;
-        let part_of_message = |items: u32| {
-            let (mut machine, mut part) = (before.clone(), record.clone());
-            part.source[0] = items << 16;
-            machine.run(&mut part);
-            (machine, part.target)
-        };
-        let receiver = {
-            let portal = Place::from_number(sender.number() * 192 + 128 + record.arguments[0] % 64)
-                .expect("a place of an object selector");
-            let portal = row(before, portal)[0];
-            domain_of(before, before.objects[portal as usize * 5 + 1])
-        };
-        let (mut here, _) = part_of_message(0);
-        let mut filled_here: Vec<Place> = Vec::new();
-        for item in 0..typed {
-            let (there, target) = part_of_message(item + 1);
-            let at = 63 - 2 * item as usize;
-            let (descriptor, second) = (range(record.source[at]), record.source[at - 1]);
-            let window = range(target[if second & 1 == 1 { 2 } else { 1 }]);
-            if let (Some(descriptor), Some(window)) = (descriptor, window) {
-                if descriptor.space == window.space {
-                    if second & 1 == 1 {
-                        let sides = (sender, receiver);
-                        let ranges = (descriptor, window);
-                        self.delegation(&here, sides, ranges, second, &there, &mut filled_here);
-                    } else {
-                        let sides = (sender, receiver);
-                        self.translation(&here, sides, (descriptor, window), target[at]);
-                    }
+        let portal = Selector::wrapped(record.arguments[0], Space::Object);
+        let portal = row(before, Place::new(sender, Space::Object, portal))[0];
+        let receiver = domain_of(before, before.objects[portal as usize * 5 + 1]);
+        let mut here = before.clone();
+        let mut filled = Vec::new();
+        for count in 1..=record.source[0] >> 16 {
+            let (mut there, mut part) = (before.clone(), record.clone());
+            part.source[0] = count << 16;
+            there.run(&mut part);
+            let at = 65 - 2 * count as usize;
+            let second = record.source[at - 1];
+            let delegates = second & 1 == 1;
+            let item = range(record.source[at]);
+            let window = range(part.target[if delegates { 2 } else { 1 }])
+                .filter(|window| item.is_some_and(|item| item.space == window.space));
+            if let (Some(item), Some(window)) = (item, window) {
+                let transfer = Transfer {
+                    sender,
+                    receiver,
+                    item,
+                    window,
+                };
+                if delegates {
+                    self.delegation(&here, transfer, second, &there, &mut filled);
+                } else {
+                    self.translation(&here, transfer, part.target[at]);
                 }
             }
             here = there;
@@ -252,68 +256,67 @@ impl Features {
     fn delegation(
         &mut self,
         before: &Machine,
-        (sender, receiver): (Domain, Domain),
-        (item, window): (Range, Range),
+        transfer: Transfer,
         second: u32,
         after: &Machine,
-        filled_here: &mut Vec<Place>,
+        filled: &mut Vec<Place>,
     ) {
+        let Transfer {
+            sender,
+            receiver,
+            item,
+            window,
+        } = transfer;
         let (flag, hotspot) = (second & 1 << 11 != 0, second >> 12);
+        let by_root = sender == Domain::ROOT;
         let order = item.order.min(window.order);
         let (from, to) = (item.part(order, hotspot), window.part(order, hotspot));
-        let source_domain = if flag && sender == Domain::ROOT {
+        let source_domain = if flag && by_root {
             Domain::HYPERVISOR
         } else {
             sender
         };
-        let mut filled = false;
-        for (source, destination) in from.places(source_domain).zip(to.places(receiver)) {
+        let (mut fills, mut hypervisor_could) = (false, false);
+        for offset in 0..from.length() {
+            let source = from.place(source_domain, offset);
+            let destination = to.place(receiver, offset);
             let [_, permissions, _, depth] = row(before, source);
-            let free = !is_live(before, destination);
-            let fills = free && is_live(after, destination);
-            let allowed = permissions & item.mask != 0;
-            filled |= fills;
-            self.refused_at_depth_31 += u32::from(free && allowed && depth == 31);
-            self.onto_a_live_place +=
-                u32::from(!free && allowed && depth < 31 && source != destination);
-            self.handed_on_in_one_message += u32::from(fills && filled_here.contains(&source));
-            if fills {
-                filled_here.push(destination);
+            let is_free = !is_live(before, destination);
+            let is_filled = is_free && is_live(after, destination);
+            let is_allowed = permissions & item.mask != 0;
+            let is_moved = source != destination;
+            self.refused_at_depth_31 += u32::from(is_free && is_allowed && depth == 31);
+            self.onto_a_live_place += u32::from(!is_free && is_allowed && depth < 31 && is_moved);
+            self.handed_on_in_one_message += u32::from(is_filled && filled.contains(&source));
+            if is_filled {
+                filled.push(destination);
             }
+            fills |= is_filled;
+            let tempting = is_live(before, from.place(Domain::HYPERVISOR, offset));
+            hypervisor_could |= is_free && tempting;
         }
-        let hypervisor = from.places(Domain::HYPERVISOR).zip(to.places(receiver));
-        let tempting = hypervisor
-            .filter(|&(source, destination)| {
-                is_live(before, source) && !is_live(before, destination)
-            })
-            .count();
-        if flag && sender == Domain::ROOT {
-            self.flag_of_the_root += u32::from(filled);
-        } else if flag {
-            self.flag_of_another_over_own += u32::from(filled);
-            self.flag_of_another_over_nothing += u32::from(!filled && tempting > 0);
-        }
+        self.flag_of_the_root += u32::from(flag && by_root && fills);
+        self.flag_of_another_over_own += u32::from(flag && !by_root && fills);
+        self.flag_of_another_over_nothing +=
+            u32::from(flag && !by_root && !fills && hypervisor_could);
         if source_domain == receiver && overlap(item, window) {
             self.onto_itself += u32::from(from.base == to.base);
-            self.beside_itself += u32::from(filled);
+            self.beside_itself += u32::from(fills);
         }
     }
 
-    fn translation(
-        &mut self,
-        machine: &Machine,
-        (sender, receiver): (Domain, Domain),
-        (item, window): (Range, Range),
-        shown: u32,
-    ) {
-        if shown != 0 {
-            self.translated += 1;
-            self.translated_ranges += u32::from(item.order > 0);
-            return;
-        }
-        self.untranslated += 1;
-        let place = item.place(sender, 0);
-        let nearest = ancestors(machine, place).find(|above| above.domain() == receiver);
+    fn translation(&mut self, machine: &Machine, transfer: Transfer, shown: u32) {
+        let Transfer {
+            sender,
+            receiver,
+            item,
+            window,
+        } = transfer;
+        self.translated += u32::from(shown != 0);
+        self.translated_ranges += u32::from(shown != 0 && item.order > 0);
+        self.untranslated += u32::from(shown == 0);
+        let nearest =
+            ancestors(machine, item.place(sender, 0)).find(|above| above.domain() == receiver);
         let outside = nearest.is_some_and(|above| !window.covers(above.selector(), item.order));
         self.window_too_small += u32::from(outside);
     }
