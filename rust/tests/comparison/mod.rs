@@ -4,8 +4,10 @@
 use std::collections::BTreeMap;
 use std::fmt::Debug;
 
+use model::boot::{ROOT_EC, ROOT_SC};
 use model::generator::{journal, Kind};
 use model::journal::Record;
+use model::layout::{DOMAIN_PLACES, SPACE_START};
 use model::random::Random;
 use model::{Hypercall, Status};
 use rudozhev::words::{
@@ -78,7 +80,7 @@ fn expected_damage(damage: model::Damage) -> Damage {
 
 /// A comparison in progress: its source of numbers and what was compared.
 pub struct Comparison {
-    pub random: Random,
+    random: Random,
     pub hypercalls: u64,
     pub censuses: u64,
     pub boots: u64,
@@ -173,9 +175,7 @@ impl Comparison {
 
     pub fn untyped(&mut self, block: &[u32]) -> Result<(), Difference> {
         self.parts += 1;
-        let (part, model) = (words::untyped(block), model::untyped(block));
-        same("untyped part", part.as_ptr_range(), model.as_ptr_range())
-            .or_else(|_| same("untyped part", part, model))
+        same("untyped part", words::untyped(block), model::untyped(block))
     }
 
     // Many calls each.
@@ -320,7 +320,7 @@ impl Comparison {
         let records = tables.objects.chunks(RECORD_WIDTH).zip(0..);
         let ecs: Vec<u32> =
             records.filter(|(record, _)| record[0] == 2).map(|(_, number)| number).collect();
-        self.random.pick(&ecs).unwrap_or(29)
+        self.random.pick(&ecs).unwrap_or(ROOT_EC)
     }
 
     /// A message block, mostly of the right length and with counts that fit.
@@ -387,7 +387,7 @@ impl Comparison {
         let mut row = 0;
         for _ in 0..8 {
             row = self.random.below(rows as u32) as usize * width;
-            if words[row + 1] != 0 && (!in_places || row >= 192 * width) {
+            if words[row + 1] != 0 && (!in_places || row >= DOMAIN_PLACES as usize * width) {
                 break;
             }
         }
@@ -406,14 +406,14 @@ impl Comparison {
             9 | 10 if in_places => self.line(words),
             11 if in_places => {
                 // Every place outside domain 0, with small words.
-                for row in words[192 * PLACE_WIDTH..].chunks_mut(PLACE_WIDTH) {
+                for row in words[DOMAIN_PLACES as usize * PLACE_WIDTH..].chunks_mut(PLACE_WIDTH) {
                     let limits = [66, 9, PLACES + 3, 33];
-                    row.iter_mut().zip(limits).for_each(|(w, limit)| *w = self.random.below(limit));
+                    row.copy_from_slice(&limits.map(|limit| self.random.below(limit)));
                 }
             }
             12 if !in_places => {
                 // Every record after boot's, with small words.
-                for word in &mut words[31 * RECORD_WIDTH..] {
+                for word in &mut words[(ROOT_SC as usize + 1) * RECORD_WIDTH..] {
                     *word = self.random.below(8);
                 }
             }
@@ -425,15 +425,15 @@ impl Comparison {
     /// A line of one page through the root's memory space, about as deep as is
     /// allowed, in place of all that was lent of memory.
     fn line(&mut self, places: &mut [u32]) {
-        let is_memory = |place: usize| place >= 192 && place % 192 < 64;
-        for (_, row) in
-            places.chunks_mut(PLACE_WIDTH).enumerate().filter(|(place, _)| is_memory(*place))
-        {
-            row.fill(0);
+        let is_lent = |place: u32| place >= DOMAIN_PLACES && place % DOMAIN_PLACES < SPACE_START[1];
+        for (row, place) in places.chunks_mut(PLACE_WIDTH).zip(0..) {
+            if is_lent(place) {
+                row.fill(0);
+            }
         }
         let page = self.random.below(64);
         for depth in 1..30 + self.random.below(6) {
-            let place = 191 + depth;
+            let place = DOMAIN_PLACES - 1 + depth;
             let parent = if depth == 1 { page } else { place - 1 };
             let start = place as usize * PLACE_WIDTH;
             places[start..start + PLACE_WIDTH].copy_from_slice(&[page, 7, parent + 1, depth]);
