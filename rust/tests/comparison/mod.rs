@@ -247,7 +247,7 @@ impl Comparison {
         Ok(())
     }
 
-    /// Censuses of a place with lists of every length around the needed one.
+    /// Censuses of a place with lists of every length up to a little more than is needed.
     pub fn censuses(&mut self, tables: &Words) -> Result<(), Difference> {
         let holds = |place: u32| tables.places[place as usize * PLACE_WIDTH + 1] != 0;
         let live: Vec<u32> = (0..PLACES).filter(|&place| holds(place)).collect();
@@ -260,7 +260,7 @@ impl Comparison {
             Some(Refusal::Short { needed }) => needed as usize,
             _ => 0,
         };
-        for length in needed.saturating_sub(12)..needed + 3 {
+        for length in 0..needed + 3 {
             let mut list: Vec<u32> = (0..length).map(|_| self.random.word()).collect();
             self.census(tables, place, &mut list)?;
         }
