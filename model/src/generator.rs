@@ -11,7 +11,7 @@ use crate::layout::{
     PLACE_WIDTH, SPACE_START,
 };
 use crate::random::Random;
-use crate::tables::{ObjectKind, Space, BIND_PT, BIND_SC, CALL_PT};
+use crate::tables::{ObjectKind, Space, BIND_PT, BIND_SC, CALL_PT, FREE};
 
 /// What a journal dwells on.
 #[derive(Clone, Copy, PartialEq, Eq, Debug)]
@@ -24,10 +24,25 @@ pub enum Kind {
     Full,
     /// Words without regard to the tables.
     Junk,
+    /// All object records in use while domains are left.
+    Spent,
+    /// Delegations that ask for the hypervisor's places, by the root and by others.
+    Flagged,
+    /// Delegations inside one domain, from ranges that overlap their windows, and
+    /// revocations of ranges that hold a place and its descendants.
+    Within,
 }
 
 impl Kind {
-    pub const ALL: [Kind; 4] = [Kind::Mixed, Kind::Deep, Kind::Full, Kind::Junk];
+    pub const ALL: [Kind; 7] = [
+        Kind::Mixed,
+        Kind::Deep,
+        Kind::Full,
+        Kind::Junk,
+        Kind::Spent,
+        Kind::Flagged,
+        Kind::Within,
+    ];
 
     pub const fn name(self) -> &'static str {
         match self {
@@ -35,6 +50,9 @@ impl Kind {
             Kind::Deep => "deep",
             Kind::Full => "full",
             Kind::Junk => "junk",
+            Kind::Spent => "spent",
+            Kind::Flagged => "flagged",
+            Kind::Within => "within",
         }
     }
 
@@ -63,6 +81,8 @@ pub fn journal(kind: Kind, seed: u64, records: usize) -> Vec<u8> {
         }
         Kind::Full => generator.settle(DOMAINS - 2, 10),
         Kind::Junk => {}
+        Kind::Spent | Kind::Within => generator.settle(1, 0),
+        Kind::Flagged => generator.settle(3, 0),
     }
     while generator.left > 0 {
         generator.step(kind);
@@ -92,6 +112,15 @@ const EC_SELECTOR: u32 = 42;
 const PT_SELECTOR: u32 = 48;
 const PT_ORDER: u32 = 3;
 const ROOT_SECOND_EC: u32 = 41;
+
+/// The kinds of objects; all but the first can be had in any number.
+const OBJECT_KINDS: [ObjectKind; 5] = [
+    ObjectKind::Pd,
+    ObjectKind::Ec,
+    ObjectKind::Sc,
+    ObjectKind::Pt,
+    ObjectKind::Sm,
+];
 
 /// Bits of an item's second word.
 const DELEGATE: u32 = 1;
@@ -631,17 +660,11 @@ impl Generator {
         self.make(Hypercall::CreatePt, ROOT_EC, &[new, pd, ec])
     }
 
-    fn create(&mut self) -> Record {
+    /// A creation of an object of one of these kinds.
+    fn create(&mut self, kinds: &[ObjectKind]) -> Record {
         let Context { number, domain, .. } = self.caller();
         let new = self.null_selector(domain);
-        let kinds = [
-            ObjectKind::Pd,
-            ObjectKind::Ec,
-            ObjectKind::Sc,
-            ObjectKind::Pt,
-            ObjectKind::Sm,
-        ];
-        let kind = self.random.pick(&kinds).unwrap_or(ObjectKind::Sm);
+        let kind = self.random.pick(kinds).unwrap_or(ObjectKind::Sm);
         let pd = self.named_selector(domain, ObjectKind::Pd, kind.create_permission());
         match kind {
             ObjectKind::Pd => {
@@ -677,6 +700,81 @@ impl Generator {
                 self.make(Hypercall::CreateSm, number, &[new, pd, count])
             }
         }
+    }
+
+    /// A creation that takes a further domain only once no record is free.
+    fn create_without_domains(&mut self) -> Record {
+        let is_free = |number: u32| self.record(number)[0] == FREE;
+        if (0..OBJECTS as u32).any(is_free) {
+            self.create(&OBJECT_KINDS[1..])
+        } else {
+            self.create(&OBJECT_KINDS)
+        }
+    }
+
+    /// A CALL whose items ask for places of the hypervisor, by any execution context.
+    fn flagged_call(&mut self) -> Record {
+        let caller = self.caller();
+        let portals = self.portals(caller);
+        let Some((portal, callee)) = self.random.pick(&portals) else {
+            return self.call(false);
+        };
+        let space = self.space();
+        let live = self.selectors(0, space, true);
+        let null = self.selectors(callee.domain, space, false);
+        let mut items: Vec<Item> = Vec::new();
+        for _ in 0..1 + self.random.below(3) {
+            let source = self.random.pick(&live).unwrap_or(0);
+            let destination = self.random.pick(&null).unwrap_or(source);
+            let (order, mask) = (self.random.below(3), self.mask());
+            let descriptor = self.around(space, source, order, mask);
+            items.push((
+                descriptor,
+                destination << HOTSPOT_SHIFT | HYPERVISOR | DELEGATE,
+            ));
+        }
+        let window = self.around(space, 0, space.order_limit(), FULL_MASK);
+        self.message(caller, portal, 0, window, &items)
+    }
+
+    /// A CALL from the root to itself whose items overlap the window: the
+    /// hotspot picks the window's own selectors or others beside them.
+    fn call_within(&mut self) -> Record {
+        let own = self.portals(ROOT).into_iter();
+        let own: Vec<(u32, Context)> = own.filter(|(_, callee)| callee.domain == 1).collect();
+        let Some((portal, _)) = self.random.pick(&own) else {
+            return self.portal_to_be();
+        };
+        let space = self.space();
+        let live = self.selectors(1, space, true);
+        let anywhere = self.random.below(space.selectors());
+        let selector = self.random.pick(&live).unwrap_or(anywhere);
+        let order = self.random.below(3);
+        let window = self.around(space, selector, order, FULL_MASK);
+        let mut items: Vec<Item> = Vec::new();
+        for _ in 0..1 + self.random.below(5) {
+            let (wider, mask) = (order + self.random.below(3), self.mask());
+            let descriptor = self.around(space, selector, wider, mask);
+            let flags = if live.is_empty() { HYPERVISOR } else { 0 };
+            let hotspot = self.random.below(space.selectors()) << HOTSPOT_SHIFT;
+            items.push((descriptor, hotspot | flags | DELEGATE));
+        }
+        self.message(ROOT, portal, 0, window, &items)
+    }
+
+    /// A REVOKE by the root of a range around a place that came from the root.
+    fn revoke_line(&mut self) -> Record {
+        let space = self.space();
+        let live = self.selectors(1, space, true);
+        let came = |&selector: &u32| self.ancestor(1, space, selector, 1).is_some();
+        let lent: Vec<u32> = live.iter().copied().filter(came).collect();
+        let anywhere = self.random.below(space.selectors());
+        let selector = self.random.pick(&lent).unwrap_or(anywhere);
+        let order = 1 + self.random.below(3);
+        let mask = 1 << self.random.below(3);
+        let descriptor = self.around(space, selector, order, mask);
+        let self_word = u32::from(self.random.percent(20));
+        self.make(Hypercall::Revoke, ROOT_EC, &[descriptor, self_word])
     }
 
     fn revoke(&mut self, deep: bool) -> Record {
@@ -765,7 +863,7 @@ impl Generator {
         let mut record = match kind {
             Kind::Mixed => match draw {
                 0..=44 => self.call(false),
-                45..=59 => self.create(),
+                45..=59 => self.create(&OBJECT_KINDS),
                 60..=73 => self.revoke(false),
                 74..=87 => self.lookup(),
                 88..=97 => self.sm_ctrl(),
@@ -773,19 +871,37 @@ impl Generator {
             },
             Kind::Deep => match draw {
                 0..=79 => self.call(true),
-                80..=82 => self.create(),
+                80..=82 => self.create(&OBJECT_KINDS),
                 83..=89 => self.revoke(true),
                 90..=97 => self.lookup(),
                 _ => self.sm_ctrl(),
             },
             Kind::Full => match draw {
-                0..=44 => self.create(),
+                0..=44 => self.create(&OBJECT_KINDS),
                 45..=69 => self.call(false),
                 70..=79 => self.revoke(false),
                 80..=89 => self.lookup(),
                 _ => self.sm_ctrl(),
             },
             Kind::Junk => self.junk(),
+            Kind::Spent => match draw {
+                0..=74 => self.create_without_domains(),
+                75..=84 => self.revoke(false),
+                85..=92 => self.lookup(),
+                _ => self.sm_ctrl(),
+            },
+            Kind::Flagged => match draw {
+                0..=64 => self.flagged_call(),
+                65..=74 => self.call(false),
+                75..=84 => self.revoke(false),
+                _ => self.lookup(),
+            },
+            Kind::Within => match draw {
+                0..=39 => self.call_within(),
+                40..=54 => self.call(false),
+                55..=79 => self.revoke_line(),
+                _ => self.lookup(),
+            },
         };
         if self.random.percent(5) {
             self.spoil(&mut record);

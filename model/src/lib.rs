@@ -17,6 +17,7 @@ pub mod layout;
 pub mod message;
 pub mod random;
 pub mod status;
+pub mod stored;
 pub mod tables;
 
 pub use boot::boot;

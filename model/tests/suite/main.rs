@@ -5,6 +5,7 @@ mod damage;
 mod examples;
 mod generator;
 mod history;
+mod journals;
 mod messages;
 mod programs;
 mod totality;

@@ -1,11 +1,14 @@
-//! The two programs: what they print and how they fail.
+//! The programs: what they print and how they fail.
 
+use std::fs;
 use std::io::Write;
-use std::path::Path;
 use std::process::{Command, Output, Stdio};
 
 use model::generator::{journal, Kind};
 use model::journal::{lines, trace};
+use model::stored::{Source, STORED};
+
+use crate::journals::replay_file;
 
 fn run(program: &str, arguments: &[&str], input: &[u8]) -> Output {
     let mut child = Command::new(program)
@@ -25,8 +28,7 @@ fn run(program: &str, arguments: &[&str], input: &[u8]) -> Output {
 #[test]
 fn trace_prints_traces_or_lines() {
     let program = env!("CARGO_BIN_EXE_trace");
-    let directory = Path::new(env!("CARGO_MANIFEST_DIR")).join("tests/vectors");
-    let files = ["mixed-1", "deep-1"].map(|name| directory.join(name).with_extension("journal"));
+    let files = ["data/mixed-1.journal", "data/deep-1.journal"].map(replay_file);
     let [first, second] = files
         .each_ref()
         .map(|file| std::fs::read(file).expect("a readable journal"));
@@ -64,4 +66,27 @@ fn generate_writes_a_journal() {
         let output = run(program, arguments, &[]);
         assert!(!output.status.success() && output.stdout.is_empty() && !output.stderr.is_empty());
     }
+}
+
+#[test]
+fn journals_writes_what_is_stored() {
+    let program = env!("CARGO_BIN_EXE_journals");
+    let directory = std::env::temp_dir().join(format!("journals-{}", std::process::id()));
+    let data = directory.join("data");
+    fs::create_dir_all(&data).expect("a directory to write in");
+    for name in STORED.iter().filter_map(|(name, source)| match source {
+        Source::Kept => Some(name),
+        _ => None,
+    }) {
+        fs::copy(replay_file("data").join(name), data.join(name)).expect("a kept journal");
+    }
+    let output = run(program, &[directory.to_str().expect("a plain path")], &[]);
+    assert!(output.status.success());
+    for name in ["args", "stdin", "stdout"] {
+        let written = fs::read(directory.join(name)).expect("a file that was written");
+        assert!(written == fs::read(replay_file(name)).expect("a stored file"));
+    }
+    fs::remove_dir_all(&directory).expect("a directory to remove");
+    let output = run(program, &[], &[]);
+    assert!(!output.status.success() && output.stdout.is_empty() && !output.stderr.is_empty());
 }

@@ -1,50 +1,47 @@
-//! Journals with the traces that they must give, byte for byte.
+//! Journals with the traces that they must give, byte for byte. The journals
+//! are those of the replay program's run; tests/vectors has their traces.
 
 use std::fs;
-use std::path::{Path, PathBuf};
+use std::path::Path;
 
 use model::journal;
 
-fn journals() -> Vec<PathBuf> {
+use crate::journals::replay_file;
+
+/// Each trace's name, its journal and itself.
+fn vectors() -> Vec<(String, Vec<u8>, String)> {
     let directory = Path::new(env!("CARGO_MANIFEST_DIR")).join("tests/vectors");
-    let mut files: Vec<PathBuf> = fs::read_dir(directory)
-        .expect("the vectors are part of the crate")
-        .map(|entry| entry.expect("a readable directory").path())
-        .filter(|path| {
-            path.extension()
-                .is_some_and(|extension| extension == "journal")
-        })
-        .collect();
-    files.sort();
+    let files = fs::read_dir(directory).expect("the traces are part of the crate");
     files
+        .map(|entry| {
+            let path = entry.expect("a readable directory").path();
+            let name = path.file_stem().and_then(|name| name.to_str());
+            let name = name.expect("a plain name").to_string();
+            let journal = fs::read(replay_file(&format!("data/{name}.journal")));
+            let trace = fs::read_to_string(&path).expect("a readable trace");
+            (name, journal.expect("a readable journal"), trace)
+        })
+        .collect()
 }
 
 #[test]
 fn every_trace_is_met() {
-    let journals = journals();
-    assert_eq!(journals.len(), 8);
-    for path in journals {
-        let bytes = fs::read(&path).expect("a readable journal");
-        let expected = fs::read_to_string(path.with_extension("trace")).expect("a readable trace");
-        assert!(
-            expected.lines().count() > 200,
-            "{} is a real trace",
-            path.display()
-        );
-        assert_eq!(journal::trace(&bytes), expected, "{}", path.display());
+    let vectors = vectors();
+    assert_eq!(vectors.len(), 8);
+    for (name, bytes, expected) in vectors {
+        assert!(expected.lines().count() > 200, "{name} is a real trace");
+        assert_eq!(journal::trace(&bytes), expected, "{name}");
     }
 }
 
 #[test]
 fn the_lines_are_the_trace_without_hashes() {
-    for path in journals() {
-        let bytes = fs::read(&path).expect("a readable journal");
-        let trace = fs::read_to_string(path.with_extension("trace")).expect("a readable trace");
+    for (name, bytes, trace) in vectors() {
         let expected: String = trace
             .lines()
             .filter(|line| !line.starts_with("places "))
             .flat_map(|line| [line, "\n"])
             .collect();
-        assert_eq!(journal::lines(&bytes), expected, "{}", path.display());
+        assert_eq!(journal::lines(&bytes), expected, "{name}");
     }
 }

@@ -1,0 +1,155 @@
+/* Measures the deepest stack that each function of libabi.a uses: replays the
+ * journals that are its arguments on a painted stack and looks how far down the
+ * paint is gone. The arguments on the caller's side are part of each figure. */
+#define _GNU_SOURCE
+#include "rudozhev.h"
+
+#include <stdio.h>
+#include <stdlib.h>
+#include <ucontext.h>
+
+enum { STACK_WORDS = 1 << 15, ARGUMENTS = 6 };
+
+#define PAINT UINT64_C(0xa5a5a5a5a5a5a5a5)
+
+enum function { BOOT, HYPERCALL, CENSUS, DAMAGE, UNTYPED, FUNCTIONS };
+static const char *const names[FUNCTIONS] = {"boot", "hypercall", "census", "damage", "untyped"};
+
+static uint32_t places[RUDOZHEV_PLACE_WORDS];
+static uint32_t objects[RUDOZHEV_OBJECT_WORDS];
+static uint32_t list[RUDOZHEV_PLACES];
+
+/* A record of a journal. */
+static struct {
+    uint32_t number, caller, arguments[ARGUMENTS], source[RUDOZHEV_BLOCK_WORDS], target[RUDOZHEV_BLOCK_WORDS];
+} record;
+
+static uint64_t stack[STACK_WORDS] __attribute__((aligned(16)));
+static size_t deepest[FUNCTIONS];
+static const uint64_t *entry;
+static ucontext_t outside, inside;
+static enum function wanted;
+static uint32_t place;
+static volatile uint64_t reply;
+
+/* Runs the wanted function, on the painted stack. */
+static void run(void) {
+    entry = __builtin_frame_address(0);
+    const uint32_t *a = record.arguments;
+    switch (wanted) {
+    case BOOT:
+        reply = rudozhev_boot(places, RUDOZHEV_PLACE_WORDS, objects, RUDOZHEV_OBJECT_WORDS);
+        break;
+    case HYPERCALL:
+        reply = rudozhev_hypercall(record.number, record.caller, a[0], a[1], a[2], a[3], a[4], a[5], places,
+                                   RUDOZHEV_PLACE_WORDS, objects, RUDOZHEV_OBJECT_WORDS, record.source,
+                                   RUDOZHEV_BLOCK_WORDS, record.target, RUDOZHEV_BLOCK_WORDS);
+        break;
+    case CENSUS:
+        reply = rudozhev_census(place, places, RUDOZHEV_PLACE_WORDS, objects, RUDOZHEV_OBJECT_WORDS, list,
+                                RUDOZHEV_PLACES);
+        break;
+    case DAMAGE:
+        reply = rudozhev_damage(places, RUDOZHEV_PLACE_WORDS, objects, RUDOZHEV_OBJECT_WORDS);
+        break;
+    case UNTYPED:
+        reply = rudozhev_untyped(record.target, RUDOZHEV_BLOCK_WORDS);
+        break;
+    case FUNCTIONS:
+        break;
+    }
+}
+
+/* Paints the stack, runs a function on it and notes how deep it went. */
+static void measure(enum function function) {
+    for (size_t word = 0; word < STACK_WORDS; word++) {
+        stack[word] = PAINT;
+    }
+    wanted = function;
+    getcontext(&inside);
+    inside.uc_stack.ss_sp = stack;
+    inside.uc_stack.ss_size = sizeof stack;
+    inside.uc_link = &outside;
+    makecontext(&inside, run, 0);
+    swapcontext(&outside, &inside);
+    const uint64_t *lowest = stack;
+    while (*lowest == PAINT) {
+        lowest++;
+    }
+    size_t depth = (size_t)(entry - lowest) * sizeof *lowest;
+    if (depth > deepest[function]) {
+        deepest[function] = depth;
+    }
+}
+
+/* The words of a record between its caller and any blocks; -1 for another kind. */
+static int argument_count(int kind) {
+    switch (kind) {
+    case RUDOZHEV_CALL:
+    case RUDOZHEV_LOOKUP:
+        return 1;
+    case RUDOZHEV_REVOKE:
+    case RUDOZHEV_SM_CTRL:
+        return 2;
+    case RUDOZHEV_CREATE_PD:
+    case RUDOZHEV_CREATE_SM:
+        return 3;
+    case RUDOZHEV_CREATE_EC:
+    case RUDOZHEV_CREATE_SC:
+        return 4;
+    case RUDOZHEV_CREATE_PT:
+        return 6;
+    default:
+        return -1;
+    }
+}
+
+/* Reads little-endian words; 0 where the journal ends before them. */
+static int read_words(FILE *journal, uint32_t *words, size_t count) {
+    for (size_t word = 0; word < count; word++) {
+        unsigned char bytes[4];
+        if (fread(bytes, 1, sizeof bytes, journal) != sizeof bytes) {
+            return 0;
+        }
+        words[word] = (uint32_t)bytes[0] | (uint32_t)bytes[1] << 8 | (uint32_t)bytes[2] << 16 | (uint32_t)bytes[3] << 24;
+    }
+    return 1;
+}
+
+static int read_record(FILE *journal) {
+    int kind = fgetc(journal);
+    int count = argument_count(kind);
+    if (count < 0) {
+        return 0;
+    }
+    record.number = (uint32_t)kind;
+    return read_words(journal, &record.caller, 1) && read_words(journal, record.arguments, (size_t)count) &&
+           (kind != RUDOZHEV_CALL || (read_words(journal, record.source, RUDOZHEV_BLOCK_WORDS) &&
+                                      read_words(journal, record.target, RUDOZHEV_BLOCK_WORDS)));
+}
+
+int main(int count, char **files) {
+    unsigned long records = 0;
+    for (int file = 1; file < count; file++) {
+        FILE *journal = fopen(files[file], "rb");
+        if (journal == NULL) {
+            perror(files[file]);
+            return EXIT_FAILURE;
+        }
+        measure(BOOT);
+        while (read_record(journal)) {
+            measure(HYPERCALL);
+            place = (place + 61) % RUDOZHEV_PLACES;
+            measure(CENSUS);
+            measure(DAMAGE);
+            measure(UNTYPED);
+            records++;
+        }
+        fclose(journal);
+    }
+    printf("deepest stack over %lu records, in bytes\n", records);
+    for (int function = 0; function < FUNCTIONS; function++) {
+        printf("%-9s %zu\n", names[function], deepest[function]);
+    }
+    return EXIT_SUCCESS;
+}

@@ -1,0 +1,94 @@
+//! Range descriptors.
+
+use crate::numbers::{Space, SELECTORS};
+
+const MASK_SHIFT: u32 = 2;
+const ORDER_SHIFT: u32 = 7;
+const BASE_SHIFT: u32 = 12;
+
+/// The largest order of a range.
+const ORDER_LIMIT: u32 = SELECTORS.trailing_zeros();
+
+/// A descriptor word: an aligned run of selectors in one space, with a mask of
+/// permissions.
+#[derive(Clone, Copy, PartialEq, Eq, Debug, Hash)]
+pub struct Descriptor(u32);
+
+impl Descriptor {
+    /// The descriptor of no range.
+    pub const NULL: Descriptor = Descriptor(0);
+
+    /// The mask with all five bits.
+    pub const FULL_MASK: u32 = 31;
+
+    /// A range of 2^order selectors from a base on: the base is below 64 and a
+    /// multiple of 2^order, the order at most 6 and the mask at most 31.
+    pub const fn new(space: Space, base: u32, order: u32, mask: u32) -> Option<Descriptor> {
+        let fits = order <= ORDER_LIMIT && base < SELECTORS && mask <= Descriptor::FULL_MASK;
+        if !fits || !base.is_multiple_of(1 << order) {
+            return None;
+        }
+        let fields = base << BASE_SHIFT | order << ORDER_SHIFT | mask << MASK_SHIFT;
+        Some(Descriptor(fields | (space as u32 + 1)))
+    }
+
+    /// Any word as a descriptor, well-formed or not.
+    pub const fn from_word(word: u32) -> Descriptor {
+        Descriptor(word)
+    }
+
+    /// The descriptor as a word.
+    pub const fn word(self) -> u32 {
+        self.0
+    }
+
+    /// The space of the range; none for a null descriptor.
+    pub const fn space(self) -> Option<Space> {
+        match self.0 & 3 {
+            1 => Some(Space::Memory),
+            2 => Some(Space::Io),
+            3 => Some(Space::Object),
+            _ => None,
+        }
+    }
+
+    /// The first selector.
+    pub const fn base(self) -> u32 {
+        self.0 >> BASE_SHIFT
+    }
+
+    /// The range has 2^order selectors.
+    pub const fn order(self) -> u32 {
+        self.0 >> ORDER_SHIFT & 31
+    }
+
+    /// The mask, or the permissions in an answer of LOOKUP.
+    pub const fn mask(self) -> u32 {
+        self.0 >> MASK_SHIFT & 31
+    }
+}
+
+#[cfg(test)]
+mod tests {
+    use super::*;
+
+    #[test]
+    fn fields_make_the_word() {
+        let found = Descriptor::new(Space::Object, 40, 0, 3).expect("a range");
+        assert_eq!(found.word(), 163_855);
+        assert_eq!(found.space(), Some(Space::Object));
+        assert_eq!((found.base(), found.order(), found.mask()), (40, 0, 3));
+        assert_eq!(Descriptor::from_word(163_855), found);
+        assert_eq!(Descriptor::NULL.space(), None);
+    }
+
+    #[test]
+    fn a_malformed_range_is_not_made() {
+        let new = |base, order, mask| Descriptor::new(Space::Memory, base, order, mask);
+        assert!(new(8, 3, 31).is_some() && new(0, 6, 0).is_some());
+        assert_eq!(new(4, 3, 31), None);
+        assert_eq!(new(0, 7, 31), None);
+        assert_eq!(new(64, 0, 31), None);
+        assert_eq!(new(0, 0, 32), None);
+    }
+}

@@ -1,0 +1,181 @@
+//! Message blocks.
+
+use core::error::Error;
+use core::fmt;
+
+use crate::descriptor::Descriptor;
+use crate::words::{self, BLOCK_WORDS, HEADER_WORDS};
+
+const TRANSLATE_WINDOW: usize = 1;
+const DELEGATE_WINDOW: usize = 2;
+const ITEM_WORDS: usize = 2;
+
+const DELEGATE: u32 = 1;
+const FROM_HYPERVISOR: u32 = 1 << 11;
+const HOTSPOT_SHIFT: u32 = 12;
+
+/// A message block of 64 words.
+#[derive(Clone, PartialEq, Eq, Debug)]
+pub struct Block([u32; BLOCK_WORDS]);
+
+/// A typed item that a message sends.
+#[derive(Clone, Copy, PartialEq, Eq, Debug)]
+pub enum Item {
+    /// Lends capabilities.
+    Delegate {
+        /// The sender's range, with the permissions to hand on as its mask.
+        range: Descriptor,
+        /// Which part of the larger of range and window is meant; below 2^20.
+        hotspot: u32,
+        /// Whether the root hands on domain 0's capabilities instead of its own.
+        from_hypervisor: bool,
+    },
+    /// Names capabilities that came from the receiver.
+    Translate {
+        /// The sender's range, with a mask.
+        range: Descriptor,
+    },
+}
+
+/// A typed item as it is received.
+#[derive(Clone, Copy, PartialEq, Eq, Debug)]
+pub enum Received {
+    /// The range that was filled.
+    Delegated(Descriptor),
+    /// The receiver's range that the sender's came from.
+    Translated(Descriptor),
+    /// Nothing was delegated.
+    NotDelegated,
+    /// Nothing was translated.
+    NotTranslated,
+}
+
+/// The mark of a message that does not fit a block.
+#[derive(Clone, Copy, PartialEq, Eq, Debug)]
+pub struct TooLong;
+
+impl fmt::Display for TooLong {
+    fn fmt(&self, out: &mut fmt::Formatter) -> fmt::Result {
+        out.write_str("the message does not fit a block")
+    }
+}
+
+impl Error for TooLong {}
+
+impl Block {
+    /// A block of zero words.
+    pub const fn new() -> Block {
+        Block([0; BLOCK_WORDS])
+    }
+
+    /// A block of these words.
+    pub const fn from_words(words: [u32; BLOCK_WORDS]) -> Block {
+        Block(words)
+    }
+
+    /// All words of the block.
+    pub const fn words(&self) -> &[u32; BLOCK_WORDS] {
+        &self.0
+    }
+
+    /// All words of the block, to be written.
+    pub fn words_mut(&mut self) -> &mut [u32; BLOCK_WORDS] {
+        &mut self.0
+    }
+
+    /// Sets where the receiver takes translated and delegated ranges.
+    pub fn set_windows(&mut self, translate: Descriptor, delegate: Descriptor) {
+        self.0[TRANSLATE_WINDOW] = translate.word();
+        self.0[DELEGATE_WINDOW] = delegate.word();
+    }
+
+    /// Sets the message to send; one that does not fit leaves the block as it is.
+    pub fn set_message(&mut self, untyped: &[u32], items: &[Item]) -> Result<(), TooLong> {
+        let data = &mut self.0[HEADER_WORDS..];
+        let room = data.len().checked_sub(untyped.len()).ok_or(TooLong)?;
+        if items.len() > room / ITEM_WORDS {
+            return Err(TooLong);
+        }
+        data[..untyped.len()].copy_from_slice(untyped);
+        for (slot, item) in data.rchunks_exact_mut(ITEM_WORDS).zip(items) {
+            let (second, range) = item.words();
+            slot.copy_from_slice(&[second, range]);
+        }
+        self.0[0] = (items.len() as u32) << 16 | untyped.len() as u32;
+        Ok(())
+    }
+
+    /// The untyped words, as a part of the block.
+    pub fn untyped(&self) -> &[u32] {
+        words::untyped(&self.0)
+    }
+
+    /// The typed items of a received message, in their order.
+    pub fn received(&self) -> impl Iterator<Item = Received> + '_ {
+        let count = (self.0[0] >> 16) as usize;
+        let slots = self.0[HEADER_WORDS..].rchunks_exact(ITEM_WORDS);
+        slots.take(count).map(|slot| {
+            let range = Descriptor::from_word(slot[1]);
+            match (slot[0] & DELEGATE, range) {
+                (0, Descriptor::NULL) => Received::NotTranslated,
+                (0, _) => Received::Translated(range),
+                (_, Descriptor::NULL) => Received::NotDelegated,
+                _ => Received::Delegated(range),
+            }
+        })
+    }
+}
+
+impl Default for Block {
+    fn default() -> Block {
+        Block::new()
+    }
+}
+
+impl Item {
+    /// The second word and the descriptor.
+    const fn words(self) -> (u32, u32) {
+        match self {
+            Item::Delegate { range, hotspot, from_hypervisor } => {
+                let flag = if from_hypervisor { FROM_HYPERVISOR } else { 0 };
+                (hotspot << HOTSPOT_SHIFT | flag | DELEGATE, range.word())
+            }
+            Item::Translate { range } => (0, range.word()),
+        }
+    }
+}
+
+#[cfg(test)]
+mod tests {
+    use super::*;
+    use crate::numbers::Space;
+
+    #[test]
+    fn a_message_is_laid_out_from_both_ends() {
+        let range = Descriptor::new(Space::Io, 8, 2, 1).expect("a range");
+        let items = [
+            Item::Delegate { range, hotspot: 23, from_hypervisor: true },
+            Item::Translate { range },
+        ];
+        let mut block = Block::new();
+        assert_eq!(block.set_message(&[5, 6, 7], &items), Ok(()));
+        let words = block.words();
+        assert_eq!(words[0], 2 << 16 | 3);
+        assert_eq!(words[4..8], [5, 6, 7, 0]);
+        assert_eq!(words[60..], [0, range.word(), 23 << 12 | 1 << 11 | 1, range.word()]);
+        assert_eq!(block.untyped(), [5, 6, 7]);
+    }
+
+    #[test]
+    fn a_message_that_does_not_fit_changes_nothing() {
+        let item = Item::Translate { range: Descriptor::NULL };
+        let mut block = Block::new();
+        assert_eq!(block.set_message(&[1; 61], &[]), Err(TooLong));
+        assert_eq!(block.set_message(&[1; 59], &[item]), Err(TooLong));
+        assert_eq!(block.set_message(&[], &[item; 31]), Err(TooLong));
+        assert_eq!(block, Block::new());
+        assert_eq!(block.set_message(&[1; 60], &[]), Ok(()));
+        assert_eq!(block.set_message(&[], &[item; 30]), Ok(()));
+        assert!(block.received().eq([Received::NotTranslated; 30]));
+    }
+}

@@ -1,0 +1,185 @@
+//! The proved functions over lent slices of any length and content.
+//!
+//! What the functions ask of their caller, that nobody else writes the slices
+//! during a call and that they do not overlap, follows from Rust's references.
+
+use crate::numbers::{ObjectNumber, Place};
+use crate::refusal::Refusal;
+
+/// Places of all domains.
+pub const PLACES: u32 = 1_536;
+
+/// Words of a place: resource, permissions, parent place plus 1, depth.
+pub const PLACE_WIDTH: usize = 4;
+
+/// Words of the place table.
+pub const PLACE_WORDS: usize = PLACES as usize * PLACE_WIDTH;
+
+/// Object records.
+pub const RECORDS: u32 = 64;
+
+/// Words of an object record: the kind and four more.
+pub const RECORD_WIDTH: usize = 5;
+
+/// Words of the object table.
+pub const OBJECT_WORDS: usize = RECORDS as usize * RECORD_WIDTH;
+
+/// Words of a message block.
+pub const BLOCK_WORDS: usize = 64;
+
+/// Words of a block before its data, which begins with the untyped words.
+pub const HEADER_WORDS: usize = 4;
+
+extern "C" {
+    fn rudozhev_boot(
+        places: *mut u32,
+        place_words: usize,
+        objects: *mut u32,
+        object_words: usize,
+    ) -> u64;
+    fn rudozhev_hypercall(
+        number: u32,
+        caller: u32,
+        a: u32,
+        b: u32,
+        c: u32,
+        d: u32,
+        e: u32,
+        f: u32,
+        places: *mut u32,
+        place_words: usize,
+        objects: *mut u32,
+        object_words: usize,
+        source: *const u32,
+        source_words: usize,
+        target: *mut u32,
+        target_words: usize,
+    ) -> u64;
+    fn rudozhev_census(
+        place: u32,
+        places: *const u32,
+        place_words: usize,
+        objects: *const u32,
+        object_words: usize,
+        list: *mut u32,
+        list_words: usize,
+    ) -> u64;
+    fn rudozhev_damage(
+        places: *const u32,
+        place_words: usize,
+        objects: *const u32,
+        object_words: usize,
+    ) -> u64;
+    fn rudozhev_untyped(block: *const u32, block_words: usize) -> u64;
+}
+
+/// Where a rule of soundness is broken.
+#[derive(Clone, Copy, PartialEq, Eq, Debug)]
+pub enum Location {
+    /// The lengths are wrong, so no record or place is to blame.
+    Lengths,
+    /// The lowest record that breaks the rule.
+    Record(ObjectNumber),
+    /// The lowest place that breaks the rule, where no record does.
+    Place(Place),
+}
+
+/// The first broken rule of soundness, by its number from 1 to 12.
+#[derive(Clone, Copy, PartialEq, Eq, Debug)]
+pub struct Damage {
+    /// The rule's number.
+    pub rule: u32,
+    /// What breaks it.
+    pub at: Location,
+}
+
+/// Writes the tables as they are when the controller starts, whatever they held;
+/// refused as damaged where a length is wrong.
+pub fn boot(places: &mut [u32], objects: &mut [u32]) -> Result<u32, Refusal> {
+    // SAFETY: each pointer is valid for its length, the slices do not overlap,
+    // and the function keeps none of them. This holds of each call below.
+    Refusal::read(unsafe {
+        rudozhev_boot(places.as_mut_ptr(), places.len(), objects.as_mut_ptr(), objects.len())
+    })
+}
+
+/// Runs the hypercall of this number by the execution context `caller`, with
+/// its words in the interface's order. CALL alone uses the two blocks.
+pub fn hypercall(
+    number: u32,
+    caller: u32,
+    [a, b, c, d, e, f]: [u32; 6],
+    places: &mut [u32],
+    objects: &mut [u32],
+    source: &[u32],
+    target: &mut [u32],
+) -> Result<u32, Refusal> {
+    // SAFETY: as at boot.
+    Refusal::read(unsafe {
+        rudozhev_hypercall(
+            number,
+            caller,
+            a,
+            b,
+            c,
+            d,
+            e,
+            f,
+            places.as_mut_ptr(),
+            places.len(),
+            objects.as_mut_ptr(),
+            objects.len(),
+            source.as_ptr(),
+            source.len(),
+            target.as_mut_ptr(),
+            target.len(),
+        )
+    })
+}
+
+/// Writes the places that descend from a place, rising, at the start of the
+/// list, and answers their number.
+pub fn census(
+    place: u32,
+    places: &[u32],
+    objects: &[u32],
+    list: &mut [u32],
+) -> Result<u32, Refusal> {
+    // SAFETY: as at boot.
+    Refusal::read(unsafe {
+        rudozhev_census(
+            place,
+            places.as_ptr(),
+            places.len(),
+            objects.as_ptr(),
+            objects.len(),
+            list.as_mut_ptr(),
+            list.len(),
+        )
+    })
+}
+
+/// The first broken rule of soundness, if any.
+pub fn damage(places: &[u32], objects: &[u32]) -> Option<Damage> {
+    // SAFETY: as at boot.
+    let found =
+        unsafe { rudozhev_damage(places.as_ptr(), places.len(), objects.as_ptr(), objects.len()) };
+    let (rule, number) = ((found >> 32) as u32, found as u32);
+    let record = ObjectNumber::new(number).map(Location::Record);
+    let at = match rule {
+        0 => return None,
+        1 => Location::Lengths,
+        _ => record
+            .or_else(|| Place::from_number(number - RECORDS).map(Location::Place))
+            .unwrap_or(Location::Lengths),
+    };
+    Some(Damage { rule, at })
+}
+
+/// The untyped words of a block, as a part of it; none for a block of another
+/// length or whose counts do not fit.
+pub fn untyped(block: &[u32]) -> &[u32] {
+    // SAFETY: as at boot.
+    let count = unsafe { rudozhev_untyped(block.as_ptr(), block.len()) } as usize;
+    block.get(HEADER_WORDS..HEADER_WORDS + count).unwrap_or_default()
+}

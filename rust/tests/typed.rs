@@ -1,0 +1,171 @@
+//! The typed calls, by the interface manual's examples.
+
+use rudozhev::words::{OBJECT_WORDS, PLACE_WORDS};
+use rudozhev::{
+    Block, Capability, Damage, Descriptor, Domain, Hypercall, Item, Location, ObjectNumber,
+    Operation, Place, Qpd, Received, Refusal, Selector, Space, Tables,
+};
+
+const ROOT_EC: ObjectNumber = ObjectNumber::ROOT_EC;
+
+/// The objects that `partners` makes second and fourth.
+const CHILD_EC: u32 = 32;
+
+fn selector(number: u32) -> Selector {
+    Selector::new(number).expect("a selector")
+}
+
+fn object(number: u32) -> ObjectNumber {
+    ObjectNumber::new(number).expect("an object number")
+}
+
+fn range(space: Space, base: u32, order: u32, mask: u32) -> Descriptor {
+    Descriptor::new(space, base, order, mask).expect("a range")
+}
+
+fn lookup(tables: &mut Tables, caller: ObjectNumber, at: Descriptor) -> Result<u32, Refusal> {
+    tables.hypercall(caller, Hypercall::Lookup { at })
+}
+
+/// Tables with domain 2 and its EC, a second EC of the root, portals of the root
+/// to both at 37 and 39, and one of the child at 40 to the root's first EC.
+fn partners() -> Result<Tables, Refusal> {
+    let mut tables = Tables::booted();
+    let pd = selector(32);
+    let event_base = Selector::FIRST;
+    let portal = |new, ec| Hypercall::CreatePt {
+        new: selector(new),
+        pd,
+        ec: selector(ec),
+        mtd: 0,
+        ip: 0,
+        identifier: 0,
+    };
+    let calls = [
+        Hypercall::CreatePd { new: selector(35), pd, initial: Descriptor::NULL },
+        Hypercall::CreateEc { new: selector(36), pd: selector(35), cpu: 0, event_base },
+        portal(37, 36),
+        Hypercall::CreateEc { new: selector(38), pd, cpu: 0, event_base },
+        portal(39, 38),
+        portal(40, 33),
+    ];
+    for call in calls {
+        assert_eq!(tables.hypercall(ROOT_EC, call)?, 0);
+    }
+    let portal = range(Space::Object, 40, 0, Descriptor::FULL_MASK);
+    assert_eq!(lend(&mut tables, 37, portal, portal, false)?, 1);
+    Ok(tables)
+}
+
+/// One delegate item by the root.
+fn lend(
+    tables: &mut Tables,
+    portal: u32,
+    range: Descriptor,
+    window: Descriptor,
+    from_hypervisor: bool,
+) -> Result<u32, Refusal> {
+    let (mut source, mut target) = (Block::new(), Block::new());
+    target.set_windows(Descriptor::NULL, window);
+    let item = Item::Delegate { range, hotspot: 0, from_hypervisor };
+    source.set_message(&[], &[item]).expect("a short message");
+    tables.call(ROOT_EC, selector(portal), &source, &mut target)
+}
+
+#[test]
+fn boot_makes_sound_tables() {
+    let tables = Tables::booted();
+    assert_eq!(tables.damage(), None);
+    let page = Place::new(Domain::HYPERVISOR, Space::Memory, selector(63));
+    let held = Capability { resource: 63, permissions: 7, parent: None, depth: 0 };
+    assert_eq!(tables.capability(page), Some(held));
+    assert_eq!(tables.capability(Place::new(Domain::ROOT, Space::Memory, selector(63))), None);
+    let zeroed = Damage { rule: 2, at: Location::Record(object(0)) };
+    assert_eq!(Tables::zeroed().damage(), Some(zeroed));
+}
+
+#[test]
+fn the_journal_example_answers_as_in_the_manual() -> Result<(), Refusal> {
+    let mut tables = Tables::booted();
+    let create = Hypercall::CreateSm { new: selector(40), pd: selector(32), count: 0 };
+    assert_eq!(tables.hypercall(ROOT_EC, create)?, 0);
+    assert_eq!(lookup(&mut tables, ROOT_EC, Descriptor::from_word(163_843))?, 163_855);
+    assert_eq!(lookup(&mut tables, ROOT_EC, range(Space::Object, 32, 0, 0))?, 131_199);
+    assert_eq!(lookup(&mut tables, ROOT_EC, range(Space::Object, 35, 0, 0))?, 0);
+    Ok(())
+}
+
+#[test]
+fn what_is_lent_is_seen_translated_and_revoked() -> Result<(), Refusal> {
+    let mut tables = partners()?;
+    let pages = range(Space::Memory, 0, 3, 7);
+    assert_eq!(lend(&mut tables, 39, pages, range(Space::Memory, 8, 3, 0), true)?, 8);
+    assert_eq!(lookup(&mut tables, ROOT_EC, range(Space::Memory, 10, 0, 0))?, 33_181);
+    let own = range(Space::Memory, 8, 1, 3);
+    assert_eq!(lend(&mut tables, 37, own, range(Space::Memory, 20, 1, 0), false)?, 2);
+
+    // The child names what it got, and the root sees its own range.
+    let (mut source, mut target) = (Block::new(), Block::new());
+    target.set_windows(range(Space::Memory, 0, 6, 0), Descriptor::NULL);
+    let got = range(Space::Memory, 20, 1, Descriptor::FULL_MASK);
+    let items = [Item::Translate { range: got }, Item::Translate { range: pages }];
+    source.set_message(&[5, 6], &items).expect("a short message");
+    assert_eq!(tables.call(object(CHILD_EC), selector(40), &source, &mut target)?, 0);
+    assert_eq!(target.untyped(), [5, 6]);
+    let received: Vec<Received> = target.received().collect();
+    assert_eq!(received, [Received::Translated(own), Received::NotTranslated]);
+
+    let place = Place::new(Domain::ROOT, Space::Memory, selector(8));
+    let heir = Place::new(Domain::new(2).expect("a domain"), Space::Memory, selector(20));
+    let short = tables.census(place, &mut []).err();
+    assert_eq!(short, Some(Refusal::Short { needed: 1 }));
+    assert!(tables.census(place, &mut [0; 4])?.eq([heir]));
+    let held = Capability { resource: 0, permissions: 3, parent: Some(place), depth: 2 };
+    assert_eq!(tables.capability(heir), Some(held));
+    let range = range(Space::Memory, 8, 0, Descriptor::FULL_MASK);
+    tables.hypercall(ROOT_EC, Hypercall::Revoke { range, with_self: false })?;
+    assert_eq!(tables.census(place, &mut [])?.count(), 0);
+    assert_eq!(tables.capability(heir), None);
+    Ok(())
+}
+
+#[test]
+fn a_refusal_is_a_value_and_changes_nothing() -> Result<(), Refusal> {
+    let mut tables = partners()?;
+    let before = tables.clone();
+    let [taken, free, pd] = [35, 50, 32].map(selector);
+    let event_base = Selector::FIRST;
+    let qpd = Qpd::new(0, 10).expect("a quantum of 20 bits");
+    let refused = [
+        (Hypercall::CreateSm { new: taken, pd, count: 0 }, Refusal::BadCap),
+        (Hypercall::CreateEc { new: free, pd, cpu: 4, event_base }, Refusal::BadCpu),
+        (Hypercall::CreateSc { new: free, pd, ec: selector(33), qpd }, Refusal::BadPar),
+        (Hypercall::SmCtrl { semaphore: pd, operation: Operation::Up }, Refusal::BadCap),
+    ];
+    for (call, refusal) in refused {
+        assert_eq!(tables.hypercall(ROOT_EC, call), Err(refusal));
+    }
+    let at = Descriptor::NULL;
+    assert_eq!(lookup(&mut tables, ObjectNumber::ROOT_PD, at), Err(Refusal::BadCaller));
+    let (source, mut target) = (Block::new(), Block::from_words([9; 64]));
+    let reply = tables.call(ROOT_EC, selector(40), &source, &mut target);
+    assert_eq!(reply, Err(Refusal::ComTim));
+    assert_eq!(target, Block::from_words([9; 64]));
+    assert!(tables == before);
+    assert_eq!(Qpd::new(1, 1 << 20), None);
+    Ok(())
+}
+
+#[test]
+fn damaged_tables_are_refused_by_that_name() {
+    let booted = Tables::booted();
+    let mut places: [u32; PLACE_WORDS] = *booted.place_words();
+    let objects: [u32; OBJECT_WORDS] = *booted.object_words();
+    let place = Place::new(Domain::ROOT, Space::Object, selector(50));
+    places[place.number() as usize * 4] = 1;
+    let mut tables = Tables::from_words(places, objects);
+    assert_eq!(tables.damage(), Some(Damage { rule: 10, at: Location::Place(place) }));
+    assert_eq!(lookup(&mut tables, ROOT_EC, Descriptor::NULL), Err(Refusal::Damaged));
+    tables.boot();
+    assert!(tables == booted);
+}
