@@ -1,0 +1,127 @@
+-- The hypercall that is made is the recorded one.
+use mathlib.Core.Path.{refl}
+use denote.Ref.{now}
+use borrow.Author.Needs.{needs}
+use Rattle.playback.proofs.PlayLaws.{source-length, target-length, Read, plays-call, plays-other}
+use Rattle.playback.proofs.play.Statement.{statement}
+use Rattle.playback.proofs.play.Tie as tie
+
+body-word-requires : tie.Need-body-word-requires
+body-word-requires c κs = search needs
+
+body-word-requires-2 : tie.Need-body-word-requires-2
+body-word-requires-2 c κs = search needs
+
+body-word-requires-3 : tie.Need-body-word-requires-3
+body-word-requires-3 c κs = search needs
+
+body-word-requires-4 : tie.Need-body-word-requires-4
+body-word-requires-4 c κs = search needs
+
+body-word-requires-5 : tie.Need-body-word-requires-5
+body-word-requires-5 c κs = search needs
+
+body-word-requires-6 : tie.Need-body-word-requires-6
+body-word-requires-6 c κs = search needs
+
+body-word-requires-7 : tie.Need-body-word-requires-7
+body-word-requires-7 c κs = search needs
+
+-- the words are the body's
+words : (c : tie.After-body-word7) →
+    Read (now (c .before .before .before .before .before .before .before .before .before .before .args .body)) (c .before .before .before .before .before .before .body-word .result) (c .before .before .before .before .before .body-word2 .result) (c .before .before .before .before .body-word3 .result) (c .before .before .before .body-word4 .result)
+    (c .before .before .body-word5 .result) (c .before .body-word6 .result) (c .body-word7 .result)
+words c =
+    record {
+      is-caller = c .before .before .before .before .before .before .body-word .ensures;
+      is-first = c .before .before .before .before .before .body-word2 .ensures;
+      is-second = c .before .before .before .before .body-word3 .ensures;
+      is-third = c .before .before .before .body-word4 .ensures;
+      is-fourth = c .before .before .body-word5 .ensures;
+      is-fifth = c .before .body-word6 .ensures;
+      is-sixth = c .body-word7 .ensures;
+    }
+
+source-requires : tie.Need-source-requires
+source-requires c κs = search needs
+
+target-requires : tie.Need-target-requires
+target-requires c κs = search needs
+
+slice-aggregate-hypercall : tie.Need-slice-aggregate-hypercall
+slice-aggregate-hypercall c = source-length _ _ (c .before .before .before .before .before .source2 .ensures)
+
+slice-aggregate-hypercall-2 : tie.Need-slice-aggregate-hypercall-2
+slice-aggregate-hypercall-2 c = target-length _ _ (c .before .before .before .before .target2 .ensures)
+
+hypercall-requires : tie.Need-hypercall-requires
+hypercall-requires c κs = search needs
+
+same-length : tie.Need-same-length
+same-length c = search needs
+
+same-length-2 : tie.Need-same-length-2
+same-length-2 c = search needs
+
+returns : tie.Need-returns
+returns c = plays-call (words (c .before .before .before .before .before .before .before .before .before .before .before .before .before .before .before)) _ (c .before .before .before .before .before .hypercall .ensures) (c .before .before .before .before .before .before .before .before .before .before .before .before .before .before .if1 .taken) (c .before .before .before .before .before .before .before .before .before .before .before .before .source2 .ensures) (c .before .before .before .before .before .before .before .before .before .before .target2 .ensures)
+
+sub-hypercall : tie.Need-sub-hypercall
+sub-hypercall c = search needs
+
+part-hypercall-start : tie.Need-part-hypercall-start
+part-hypercall-start c = search needs
+
+part-hypercall-end : tie.Need-part-hypercall-end
+part-hypercall-end c = search needs
+
+sub-hypercall-2 : tie.Need-sub-hypercall-2
+sub-hypercall-2 c = search needs
+
+part-target-start : tie.Need-part-target-start
+part-target-start c = search needs
+
+part-target-end : tie.Need-part-target-end
+part-target-end c = search needs
+
+hypercall-requires-2 : tie.Need-hypercall-requires-2
+hypercall-requires-2 c κs = search needs
+
+same-length-3 : tie.Need-same-length-3
+same-length-3 c = search needs
+
+same-length-4 : tie.Need-same-length-4
+same-length-4 c = search needs
+
+returns-2 : tie.Need-returns-2
+returns-2 c = plays-other (words (c .before .before .before .before .before .before .before .before .before .before .before .before)) _ (c .before .before .before .before .before .hypercall2 .ensures) (c .before .before .before .before .before .before .before .before .before .before .before .if1 .left) refl refl
+
+pub play-spec : {M : Type 1} → statement M
+play-spec =
+    tie.close
+    (tie.spec
+    body-word-requires
+    body-word-requires-2
+    body-word-requires-3
+    body-word-requires-4
+    body-word-requires-5
+    body-word-requires-6
+    body-word-requires-7
+    source-requires
+    target-requires
+    slice-aggregate-hypercall
+    slice-aggregate-hypercall-2
+    hypercall-requires
+    same-length
+    same-length-2
+    returns
+    sub-hypercall
+    part-hypercall-start
+    part-hypercall-end
+    sub-hypercall-2
+    part-target-start
+    part-target-end
+    hypercall-requires-2
+    same-length-3
+    same-length-4
+    returns-2)
