@@ -67,6 +67,24 @@ fn damage_agrees_and_refuses_every_call() -> Result<(), Difference> {
 }
 
 #[test]
+fn damage_agrees_at_every_bound_of_every_record() -> Result<(), Difference> {
+    const BOUNDS: [u32; 12] = [0, 1, 2, 4, 6, 8, 28, 32, 64, 256, 1 << 20, u32::MAX];
+    let mut all = Comparison::new(7);
+    for seed in 0..20 {
+        let mut tables = grown(seed);
+        for word in 0..tables.objects.len() {
+            let right = tables.objects[word];
+            for value in BOUNDS.into_iter().flat_map(|bound| [bound, bound.wrapping_sub(1)]) {
+                tables.objects[word] = value;
+                all.damage(&tables)?;
+            }
+            tables.objects[word] = right;
+        }
+    }
+    Ok(())
+}
+
+#[test]
 fn censuses_agree_with_lists_of_every_length() -> Result<(), Difference> {
     let mut all = Comparison::new(4);
     for seed in 0..60 {
