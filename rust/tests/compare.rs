@@ -1,5 +1,5 @@
 //! The proved functions against the model, on random calls from fixed seeds.
-//! `examples/compare.rs` does the same for as long as is wanted.
+//! `examples/compare.rs` goes on with random calls for as long as is wanted.
 
 mod comparison;
 
