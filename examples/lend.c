@@ -85,9 +85,9 @@ int main(void) {
 
     uint32_t lent = lend(TO_CHILD, four, rudozhev_item(RUDOZHEV_DELEGATE, 8), everything);
     printf("the root lends %" PRIu32 " of them to domain 2\n", lent);
-    uint32_t untyped = rudozhev_answer(rudozhev_untyped(target, RUDOZHEV_BLOCK_WORDS));
-    printf("the message has %" PRIu32 " untyped words:", untyped);
-    for (uint32_t word = 0; word < untyped; word++) {
+    uint64_t untyped = rudozhev_untyped(target, RUDOZHEV_BLOCK_WORDS);
+    printf("the message has %" PRIu64 " untyped words:", untyped);
+    for (uint64_t word = 0; word < untyped; word++) {
         printf(" %" PRIu32, target[RUDOZHEV_HEADER_WORDS + word]);
     }
     printf("\n");
@@ -102,10 +102,14 @@ int main(void) {
     count("the hypervisor's port 32", port_of_hypervisor);
     count("the root's port 32", port_of_root);
 
+    uint32_t sound = rudozhev_sound(places, RUDOZHEV_PLACE_WORDS, objects, RUDOZHEV_OBJECT_WORDS);
+    printf("the tables are %s\n", sound ? "sound" : "damaged");
     places[RUDOZHEV_PLACE_WIDTH * port_of_root + 3] = 9;
+    sound = rudozhev_sound(places, RUDOZHEV_PLACE_WORDS, objects, RUDOZHEV_OBJECT_WORDS);
+    printf("a wrong depth is written, and they are %s\n", sound ? "sound" : "damaged");
     uint64_t damage = rudozhev_damage(places, RUDOZHEV_PLACE_WORDS, objects, RUDOZHEV_OBJECT_WORDS);
-    printf("a wrong depth at place %" PRIu32 " breaks rule %" PRIu32 " at place %" PRIu32 "\n", port_of_root,
-           (uint32_t)(damage >> 32), (uint32_t)damage - RUDOZHEV_RECORDS);
+    printf("rule %" PRIu32 " is broken at place %" PRIu32 "\n", (uint32_t)(damage >> 32),
+           (uint32_t)damage - RUDOZHEV_RECORDS);
     reply = rudozhev_census(port_of_root, places, RUDOZHEV_PLACE_WORDS, objects, RUDOZHEV_OBJECT_WORDS, NULL, 0);
     printf("its census is refused with status %" PRIu32 "\n", rudozhev_status(reply));
     return EXIT_SUCCESS;

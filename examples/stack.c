@@ -1,19 +1,21 @@
 /* Measures the deepest stack that each function of libabi.a uses: replays the
- * journals that are its arguments on a painted stack and looks how far down the
- * paint is gone. The arguments on the caller's side are part of each figure. */
+ * journals that are its arguments, then walks the longest way to an ancestor, on
+ * a painted stack, and looks how far down the paint is gone. The arguments on the
+ * caller's side are part of each figure. */
 #define _GNU_SOURCE
 #include "rudozhev.h"
 
+#include <inttypes.h>
 #include <stdio.h>
 #include <stdlib.h>
 #include <ucontext.h>
 
-enum { STACK_WORDS = 1 << 15, ARGUMENTS = 6 };
+enum { STACK_WORDS = 1 << 15, ARGUMENTS = 6, GREATEST_DEPTH = 31 };
 
 #define PAINT UINT64_C(0xa5a5a5a5a5a5a5a5)
 
-enum function { BOOT, HYPERCALL, CENSUS, DAMAGE, UNTYPED, FUNCTIONS };
-static const char *const names[FUNCTIONS] = {"boot", "hypercall", "census", "damage", "untyped"};
+enum function { BOOT, HYPERCALL, CENSUS, DAMAGE, SOUND, UNTYPED, FUNCTIONS };
+static const char *const names[FUNCTIONS] = {"boot", "hypercall", "census", "damage", "sound", "untyped"};
 
 static uint32_t places[RUDOZHEV_PLACE_WORDS];
 static uint32_t objects[RUDOZHEV_OBJECT_WORDS];
@@ -51,6 +53,9 @@ static void run(void) {
         break;
     case DAMAGE:
         reply = rudozhev_damage(places, RUDOZHEV_PLACE_WORDS, objects, RUDOZHEV_OBJECT_WORDS);
+        break;
+    case SOUND:
+        reply = rudozhev_sound(places, RUDOZHEV_PLACE_WORDS, objects, RUDOZHEV_OBJECT_WORDS);
         break;
     case UNTYPED:
         reply = rudozhev_untyped(record.target, RUDOZHEV_BLOCK_WORDS);
@@ -128,6 +133,49 @@ static int read_record(FILE *journal) {
                                       read_words(journal, record.target, RUDOZHEV_BLOCK_WORDS)));
 }
 
+/* Measures a hypercall of the root, which must succeed. */
+static void by_root(uint32_t number, uint32_t a, uint32_t b, uint32_t c) {
+    record.number = number;
+    record.caller = RUDOZHEV_ROOT_EC;
+    record.arguments[0] = a;
+    record.arguments[1] = b;
+    record.arguments[2] = c;
+    record.arguments[3] = 0;
+    measure(HYPERCALL);
+    if (rudozhev_status(reply) != RUDOZHEV_SUCCESS) {
+        printf("hypercall %" PRIu32 " is refused\n", number);
+        exit(EXIT_FAILURE);
+    }
+}
+
+/* The root translates the end of a page's line through its own domain, of the
+ * greatest depth, for a domain that has no place in the line; then the census of
+ * that end walks up from it, too. */
+static void walk_the_longest_way(void) {
+    enum { CHILD_PD = 35, CHILD_EC = 36, TO_CHILD = 37 };
+    measure(BOOT);
+    by_root(RUDOZHEV_CREATE_PD, CHILD_PD, RUDOZHEV_ROOT_PD_SELECTOR, RUDOZHEV_NULL);
+    by_root(RUDOZHEV_CREATE_EC, CHILD_EC, CHILD_PD, 0);
+    by_root(RUDOZHEV_CREATE_PT, TO_CHILD, RUDOZHEV_ROOT_PD_SELECTOR, CHILD_EC);
+    uint32_t parent = rudozhev_place(0, RUDOZHEV_MEMORY, 0);
+    for (uint32_t depth = 1; depth <= GREATEST_DEPTH; depth++) {
+        uint32_t next = rudozhev_place(1, RUDOZHEV_MEMORY, depth);
+        uint32_t *words = places + RUDOZHEV_PLACE_WIDTH * next;
+        words[0] = places[RUDOZHEV_PLACE_WIDTH * parent];
+        words[1] = places[RUDOZHEV_PLACE_WIDTH * parent + 1];
+        words[2] = parent + 1;
+        words[3] = depth;
+        parent = next;
+    }
+    record.source[0] = rudozhev_counts(0, 1);
+    record.source[RUDOZHEV_BLOCK_WORDS - 1] = rudozhev_range(RUDOZHEV_MEMORY, GREATEST_DEPTH, 0, RUDOZHEV_FULL_MASK);
+    record.source[RUDOZHEV_BLOCK_WORDS - 2] = rudozhev_item(RUDOZHEV_TRANSLATE, 0);
+    record.target[1] = rudozhev_range(RUDOZHEV_MEMORY, 0, 6, 0);
+    by_root(RUDOZHEV_CALL, TO_CHILD, 0, 0);
+    place = parent;
+    measure(CENSUS);
+}
+
 int main(int count, char **files) {
     unsigned long records = 0;
     for (int file = 1; file < count; file++) {
@@ -142,12 +190,14 @@ int main(int count, char **files) {
             place = (place + 61) % RUDOZHEV_PLACES;
             measure(CENSUS);
             measure(DAMAGE);
+            measure(SOUND);
             measure(UNTYPED);
             records++;
         }
         fclose(journal);
     }
-    printf("deepest stack over %lu records, in bytes\n", records);
+    walk_the_longest_way();
+    printf("deepest stack over %lu records and the longest way, in bytes\n", records);
     for (int function = 0; function < FUNCTIONS; function++) {
         printf("%-9s %zu\n", names[function], deepest[function]);
     }

@@ -92,7 +92,12 @@ impl Tables {
         Ok(list.iter().take(count).copied().filter_map(Place::from_number))
     }
 
-    /// The first broken rule of soundness; none in tables that only calls changed since boot.
+    /// Whether no rule of soundness is broken, as in tables that only calls changed since boot.
+    pub fn is_sound(&self) -> bool {
+        words::is_sound(&self.places, &self.objects)
+    }
+
+    /// The first broken rule of soundness; none in sound tables.
     pub fn damage(&self) -> Option<Damage> {
         words::damage(&self.places, &self.objects)
     }

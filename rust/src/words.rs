@@ -70,6 +70,12 @@ extern "C" {
         objects: *const u32,
         object_words: usize,
     ) -> u64;
+    fn rudozhev_sound(
+        places: *const u32,
+        place_words: usize,
+        objects: *const u32,
+        object_words: usize,
+    ) -> u32;
     fn rudozhev_untyped(block: *const u32, block_words: usize) -> u64;
 }
 
@@ -82,6 +88,9 @@ pub enum Location {
     Record(ObjectNumber),
     /// The lowest place that breaks the rule, where no record does.
     Place(Place),
+    /// A number that the interface does not list for the rule; the proved function
+    /// never answers so.
+    Unknown(u32),
 }
 
 /// The first broken rule of soundness, by its number from 1 to 12.
@@ -91,6 +100,24 @@ pub struct Damage {
     pub rule: u32,
     /// What breaks it.
     pub at: Location,
+}
+
+impl Damage {
+    /// Reads a report: the rule in its high half, 0 where the tables are sound, and
+    /// the record, or the place counted from the records on, in its low half.
+    fn read(report: u64) -> Option<Damage> {
+        let (rule, number) = ((report >> 32) as u32, report as u32);
+        let at = match (rule, number) {
+            (0, 0) => return None,
+            (1, 0) => Location::Lengths,
+            (0 | 1, _) => Location::Unknown(number),
+            _ => ObjectNumber::new(number)
+                .map(Location::Record)
+                .or_else(|| Place::from_number(number - RECORDS).map(Location::Place))
+                .unwrap_or(Location::Unknown(number)),
+        };
+        Some(Damage { rule, at })
+    }
 }
 
 /// Writes the tables as they are when the controller starts, whatever they held;
@@ -162,18 +189,15 @@ pub fn census(
 /// The first broken rule of soundness, if any.
 pub fn damage(places: &[u32], objects: &[u32]) -> Option<Damage> {
     // SAFETY: as at boot.
-    let found =
-        unsafe { rudozhev_damage(places.as_ptr(), places.len(), objects.as_ptr(), objects.len()) };
-    let (rule, number) = ((found >> 32) as u32, found as u32);
-    let record = ObjectNumber::new(number).map(Location::Record);
-    let at = match rule {
-        0 => return None,
-        1 => Location::Lengths,
-        _ => record
-            .or_else(|| Place::from_number(number - RECORDS).map(Location::Place))
-            .unwrap_or(Location::Lengths),
-    };
-    Some(Damage { rule, at })
+    Damage::read(unsafe {
+        rudozhev_damage(places.as_ptr(), places.len(), objects.as_ptr(), objects.len())
+    })
+}
+
+/// Whether the tables are sound. Faster than finding the broken rule.
+pub fn is_sound(places: &[u32], objects: &[u32]) -> bool {
+    // SAFETY: as at boot.
+    unsafe { rudozhev_sound(places.as_ptr(), places.len(), objects.as_ptr(), objects.len()) == 1 }
 }
 
 /// The untyped words of a block, as a part of it; none for a block of another
@@ -182,4 +206,25 @@ pub fn untyped(block: &[u32]) -> &[u32] {
     // SAFETY: as at boot.
     let count = unsafe { rudozhev_untyped(block.as_ptr(), block.len()) } as usize;
     block.get(HEADER_WORDS..HEADER_WORDS + count).unwrap_or_default()
+}
+
+#[cfg(test)]
+mod tests {
+    use super::*;
+
+    #[test]
+    fn every_report_is_read_whole() {
+        let read = |rule: u64, number: u32| Damage::read(rule << 32 | u64::from(number));
+        let found = |rule, at| Some(Damage { rule, at });
+        let place = |number| Location::Place(Place::from_number(number).expect("a place"));
+        let record = Location::Record(ObjectNumber::new(63).expect("an object number"));
+        assert_eq!(read(0, 0), None);
+        assert_eq!(read(0, 5), found(0, Location::Unknown(5)));
+        assert_eq!(read(1, 0), found(1, Location::Lengths));
+        assert_eq!(read(1, 5), found(1, Location::Unknown(5)));
+        assert_eq!(read(9, 63), found(9, record));
+        assert_eq!(read(10, 64), found(10, place(0)));
+        assert_eq!(read(12, 1_599), found(12, place(1_535)));
+        assert_eq!(read(12, 1_600), found(12, Location::Unknown(1_600)));
+    }
 }

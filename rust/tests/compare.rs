@@ -1,12 +1,22 @@
 //! The proved functions against the model, on random calls from fixed seeds.
-//! `examples/compare.rs` does the same for as long as is wanted.
+//! `examples/compare.rs` goes on with random calls for as long as is wanted.
 
 mod comparison;
 
 use comparison::{Comparison, Difference, Words};
+use model::boot::{ROOT_EC, ROOT_SC};
 use model::generator::{journal, Kind};
 use model::journal::{Replay, Step};
+use model::layout::DOMAIN_PLACES;
+use model::random::Random;
 use model::Hypercall;
+use rudozhev::words::{BLOCK_WORDS, OBJECT_WORDS, PLACE_WIDTH, PLACE_WORDS, RECORD_WIDTH};
+
+fn booted(all: &mut Comparison) -> Result<Words, Difference> {
+    let mut tables = Words { places: vec![0; PLACE_WORDS], objects: vec![0; OBJECT_WORDS] };
+    all.boot(&mut tables)?;
+    Ok(tables)
+}
 
 /// Sound tables with much in them, as a journal leaves them.
 fn grown(seed: u64) -> Words {
@@ -63,6 +73,103 @@ fn damage_agrees_and_refuses_every_call() -> Result<(), Difference> {
     for (rule, count) in all.rules.into_iter().enumerate() {
         assert!(count > 20, "rule {rule} was met {count} times");
     }
+    Ok(())
+}
+
+#[test]
+fn damage_agrees_at_every_bound_of_every_record() -> Result<(), Difference> {
+    const BOUNDS: [u32; 12] = [0, 1, 2, 4, 6, 8, 28, 32, 64, 256, 1 << 20, u32::MAX];
+    let mut all = Comparison::new(7);
+    for seed in 0..21 {
+        let mut tables = grown(seed);
+        for word in 0..tables.objects.len() {
+            let right = tables.objects[word];
+            for value in BOUNDS.into_iter().flat_map(|bound| [bound, bound.wrapping_sub(1)]) {
+                tables.objects[word] = value;
+                all.damage(&tables)?;
+            }
+            tables.objects[word] = right;
+        }
+    }
+    Ok(())
+}
+
+#[test]
+fn damage_agrees_on_any_number_of_domains() -> Result<(), Difference> {
+    let mut all = Comparison::new(8);
+    let mut tables = booted(&mut all)?;
+    let records = tables.objects.len() / RECORD_WIDTH;
+    for (record, domain) in (ROOT_SC as usize + 1..records).zip(2..) {
+        let start = record * RECORD_WIDTH;
+        tables.objects[start..start + 2].copy_from_slice(&[1, domain]);
+        assert_eq!(all.damage(&tables)?.is_none(), domain < 8);
+    }
+    Ok(())
+}
+
+/// Tables in which the root's pages came from domain 2's, in runs of any length
+/// and distance, and the root has a portal to domain 2 at selector 37.
+fn borrowed(all: &mut Comparison, random: &mut Random) -> Result<Words, Difference> {
+    let mut tables = booted(all)?;
+    for (call, arguments) in [
+        (Hypercall::CreatePd, [35, 32, 0, 0, 0, 0]),
+        (Hypercall::CreateEc, [36, 35, 0, 0, 0, 0]),
+        (Hypercall::CreatePt, [37, 32, 36, 0, 0, 0]),
+    ] {
+        let (source, target) = (&[], &mut []);
+        let refusal =
+            all.hypercall(&mut tables, call.number(), ROOT_EC, arguments, source, target)?;
+        assert_eq!(refusal, None);
+    }
+    let mut put = |place: u32, words: [u32; PLACE_WIDTH]| {
+        let start = place as usize * PLACE_WIDTH;
+        tables.places[start..start + PLACE_WIDTH].copy_from_slice(&words);
+    };
+    let mut distance = 0;
+    for page in 0..64 {
+        put(2 * DOMAIN_PLACES + page, [page, 7, page + 1, 1]);
+        if random.percent(15) {
+            distance = random.below(64);
+        }
+        if random.percent(95) {
+            let lent = (page + distance) % 64;
+            let parent = 2 * DOMAIN_PLACES + lent;
+            put(DOMAIN_PLACES + page, [lent, 1 + random.below(7), parent + 1, 2]);
+        }
+    }
+    assert_eq!(all.damage(&tables)?, None);
+    Ok(tables)
+}
+
+#[test]
+fn translations_agree() -> Result<(), Difference> {
+    let mut all = Comparison::new(9);
+    let mut random = Random::new(9);
+    let range = |random: &mut Random, order: u32| {
+        let base = random.below(64) >> order << order;
+        base << 12 | order << 7 | random.below(32) << 2 | 1
+    };
+    let [mut shown, mut null] = [0, 0];
+    for _ in 0..200 {
+        let mut tables = borrowed(&mut all, &mut random)?;
+        for _ in 0..10 {
+            let (mut source, mut target) = ([0; BLOCK_WORDS], [0; BLOCK_WORDS]);
+            source[0] = 30 << 16;
+            for item in source[4..].chunks_mut(2) {
+                let order = random.below(4);
+                item[1] = range(&mut random, order);
+            }
+            let order = 4 + random.below(3);
+            target[1] = range(&mut random, order);
+            let call = Hypercall::Call.number();
+            let arguments = [37, 0, 0, 0, 0, 0];
+            all.hypercall(&mut tables, call, ROOT_EC, arguments, &source, &mut target)?;
+            let count = target[4..].chunks(2).filter(|item| item[1] != 0).count();
+            shown += count;
+            null += 30 - count;
+        }
+    }
+    assert!(shown > 10_000 && null > 10_000, "{shown} shown, {null} null");
     Ok(())
 }
 

@@ -75,12 +75,14 @@ fn lend(
 #[test]
 fn boot_makes_sound_tables() {
     let tables = Tables::booted();
+    assert!(tables.is_sound());
     assert_eq!(tables.damage(), None);
     let page = Place::new(Domain::HYPERVISOR, Space::Memory, selector(63));
     let held = Capability { resource: 63, permissions: 7, parent: None, depth: 0 };
     assert_eq!(tables.capability(page), Some(held));
     assert_eq!(tables.capability(Place::new(Domain::ROOT, Space::Memory, selector(63))), None);
     let zeroed = Damage { rule: 2, at: Location::Record(object(0)) };
+    assert!(!Tables::zeroed().is_sound());
     assert_eq!(Tables::zeroed().damage(), Some(zeroed));
 }
 

@@ -165,11 +165,13 @@ impl Comparison {
         Ok(reply.err())
     }
 
+    /// The first broken rule, and whether there is one.
     pub fn damage(&mut self, tables: &Words) -> Result<Option<Damage>, Difference> {
         let report = words::damage(&tables.places, &tables.objects);
         let model = model::damage(&tables.places, &tables.objects).map(expected_damage);
         self.rules[model.map_or(0, |damage| damage.rule as usize)] += 1;
         same("damage", report, model)?;
+        same("soundness", words::is_sound(&tables.places, &tables.objects), model.is_none())?;
         Ok(report)
     }
 
