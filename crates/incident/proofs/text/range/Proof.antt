@@ -1,0 +1,58 @@
+-- A range has a first selector.
+use lib.Pow.{pow-pos}
+use borrow.Author.Needs.{needs}
+use Rattle.incident.proofs.text.range.Statement.{statement}
+use Rattle.incident.proofs.text.range.Tie as tie
+
+space-requires : tie.Need-space-requires
+space-requires c κs = search needs
+
+order-requires : tie.Need-order-requires
+order-requires c κs = search needs
+
+size-requires : tie.Need-size-requires
+size-requires c κs = search needs
+
+resources-requires : tie.Need-resources-requires
+resources-requires c κs = search needs
+
+slice-aggregate-say : tie.Need-slice-aggregate-say
+slice-aggregate-say c = search needs
+
+say-requires : tie.Need-say-requires
+say-requires c κs = search needs
+
+at-requires : tie.Need-at-requires
+at-requires c κs = search (pow-pos, needs)
+
+number-requires : tie.Need-number-requires
+number-requires c κs = search needs
+
+number-requires-2 : tie.Need-number-requires-2
+number-requires-2 c κs = search needs
+
+slice-aggregate-say-2 : tie.Need-slice-aggregate-say-2
+slice-aggregate-say-2 c = search needs
+
+say-requires-2 : tie.Need-say-requires-2
+say-requires-2 c κs = search needs
+
+returns : tie.Need-returns
+returns c = search needs
+
+pub range-spec : {M : Type 1} → statement M
+range-spec =
+    tie.close
+    (tie.spec
+    space-requires
+    order-requires
+    size-requires
+    resources-requires
+    slice-aggregate-say
+    say-requires
+    at-requires
+    number-requires
+    number-requires-2
+    slice-aggregate-say-2
+    say-requires-2
+    returns)
