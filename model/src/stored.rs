@@ -10,6 +10,8 @@ pub enum Source {
     Input(&'static [u8]),
     /// A file of these bytes.
     Bytes(&'static [u8]),
+    /// A file of the bytes that this writes.
+    Written(fn() -> Vec<u8>),
     /// A file that the generator makes from kind, seed and number of records.
     Generated(Kind, u64, usize),
     /// A file that is kept as it is; tests/vectors has its trace.
@@ -23,6 +25,7 @@ impl Source {
     pub fn bytes(self) -> Option<Vec<u8>> {
         match self {
             Source::Input(bytes) | Source::Bytes(bytes) => Some(bytes.to_vec()),
+            Source::Written(write) => Some(write()),
             Source::Generated(kind, seed, records) => Some(journal(kind, seed, records)),
             Source::Kept | Source::Absent => None,
         }
@@ -34,9 +37,36 @@ const EXAMPLE: &[u8] = &[
     6, 29, 0, 0, 0, 40, 0, 0, 0, 32, 0, 0, 0, 0, 0, 0, 0, 8, 29, 0, 0, 0, 3, 128, 2, 0,
 ];
 
+/// The interface manual's example that is only run: the root takes pages 0 to 7 of
+/// domain 0 as its pages 8 to 15, through a portal of its own, and looks up page 10.
+fn pages_to_root() -> Vec<u8> {
+    let root_ec = 29;
+    let (root_pd, new_ec, new_pt) = (32, 35, 36);
+    let mut bytes = Vec::new();
+    let mut record = |kind: u8, words: &[u32]| {
+        bytes.push(kind);
+        for word in words {
+            bytes.extend(word.to_le_bytes());
+        }
+    };
+    record(3, &[root_ec, new_ec, root_pd, 0, 0]);
+    record(5, &[root_ec, new_pt, root_pd, new_ec, 0, 0, 0]);
+    let mut call = [0; 2 + 64 + 64];
+    (call[0], call[1]) = (root_ec, new_pt);
+    let (source, target) = call[2..].split_at_mut(64);
+    source[0] = 1 << 16; // one typed item
+    source[63] = 1 | 7 << 2 | 3 << 7; // memory, mask 7, order 3, base 0
+    source[62] = 1 | 1 << 11; // delegate, H
+    target[2] = 1 | 31 << 2 | 3 << 7 | 8 << 12; // memory, mask 31, order 3, base 8
+    record(0, &call);
+    record(8, &[root_ec, 1 | 10 << 12]);
+    bytes
+}
+
 /// Each argument of the replay program with its journal.
 pub const STORED: &[(&str, Source)] = &[
     ("-", Source::Input(EXAMPLE)),
+    ("pages-to-root.journal", Source::Written(pages_to_root)),
     ("empty.journal", Source::Bytes(&[])),
     ("cut-after-kind.journal", Source::Bytes(&[6])),
     (
