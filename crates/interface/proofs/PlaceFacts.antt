@@ -93,7 +93,7 @@ pub record LivePlace (s : State) (p : ℕ) : Type 0 where
   pub lineage : Lineage s p
 
 -- the test of a place and its parent, to the facts and back
-child-facts : (s : State) (p q : ℕ) → s .caps p .parent ≡ suc q → child-place s p q ≡ true → ChildOf s p q
+pub child-facts : (s : State) (p q : ℕ) → s .caps p .parent ≡ suc q → child-place s p q ≡ true → ChildOf s p q
 child-facts s p q e h =
     let small = ltb q places in
     let alive = live (s .caps q) in
@@ -113,7 +113,7 @@ child-facts s p q e h =
       deeper = eqb-true (s .caps q .depth + 1) (s .caps p .depth) (and-right (small && alive && space && resource && inside) deeper h);
     }
 
-child-test : (s : State) (p q : ℕ) → ChildOf s p q → child-place s p q ≡ true
+pub child-test : (s : State) (p q : ℕ) → ChildOf s p q → child-place s p q ≡ true
 child-test s p q c =
     rw (
       lt-ltb q places (c .is-place),

@@ -1,14 +1,15 @@
 -- What REVOKE answers and leaves, by its self word and the reading of its descriptor.
-use Prim.Native.Nat.{ℕ, _+_, _^_, _≤_, _<_}
-use mathlib.Core.Path.{_≡_, sym}
+use Prim.Native.Nat.{ℕ, _+_, _-_, _^_, _≤_, _<_}
+use mathlib.Core.Path.{_≡_, sym, _∙_}
 use mathlib.Core.List.{List, [], _∷_}
 use native.Mathlib.Omega.{arith}
 use native.Mathlib.Nat.{add-zero}
 use lib.Dec.{eqb}
+use lib.Pow.{pow-pos}
 use borrow.Author.Tests.{le-leb, lt-leb}
-use Rattle.words.specs.Sizes.{domains, spaces, placeOf}
+use Rattle.words.specs.Sizes.{domains, spaces, placeOf, spaceOf}
 use Rattle.words.specs.Sizes.{places as placeCount}
-use Rattle.words.proofs.PlaceLaws.{start-rises}
+use Rattle.words.proofs.PlaceLaws.{start-rises, space-back}
 use Rattle.descriptor.specs.declared.Range.{Range}
 use Rattle.descriptor.specs.declared.Reading.the-variants.{Null, Malformed, Good}
 use Rattle.descriptor.specs.declared.Reply.the-variants.{Success, BadPar}
@@ -18,6 +19,7 @@ use Rattle.interface.specs.Effects.{cut, cutCaps, act, run}
 use Rattle.interface.specs.Verdicts.{Call, refuse, grant, callerDomain}
 use Rattle.interface.specs.Rules.{Runs}
 use Rattle.interface.specs.Revoke.{revoke}
+use Rattle.tree.specs.Walks.{InSpace}
 use Rattle.capabilities.specs.Callers.{tables, view, Called}
 use Rattle.capabilities.proofs.CallerLaws.{places-kept, objects-kept, refused-runs, granted-runs}
 
@@ -40,6 +42,24 @@ aims domain {range} is-mask is-space is-selector is-place is-first is-order is-s
 pub range-ends : {domain mask first size : ℕ} {range : Range} → Aimed domain range mask first size → Proper range → domain < domains → first + size ≤ placeCount
 range-ends {range} aimed proper small =
     omega (arith, aimed .is-first, aimed .is-size, proper .ends-inside, start-rises (range .space) spaces (proper .space-small))
+
+-- and of one space
+pub range-in-space : {domain mask first size : ℕ} {range : Range} → Aimed domain range mask first size → Proper range → domain < domains → InSpace first size
+range-in-space {domain} {mask} {first} {size} {range} aimed proper small =
+    let some = pow-pos (range .order) in
+    let there : (k : ℕ) → k < size → spaceOf (first + k) ≡ range .space =
+    λ k l.
+    let at : first + k ≡ placeOf domain (range .space) (range .base + k) = omega (arith, aimed .is-first) in
+    rw at (space-back domain (range .space) (range .base + k) (proper .space-small) (omega (arith, aimed .is-size, proper .ends-inside))) in
+    let begins : spaceOf (first + 0) ≡ range .space = there 0 (omega (arith, aimed .is-size)) in
+    record {
+      first-place = omega (arith, range-ends aimed proper small, aimed .is-size);
+      ends = range-ends aimed proper small;
+      one-space =
+          λ p from before.
+          let back : first + (p - first) ≡ p = omega arith in
+          (rw back at (there (p - first) (omega arith))) ∙ sym (rw (add-zero first) at begins);
+    }
 
 -- the verdict on a call whose self word is 0 or 1, by the reading of its descriptor
 module _ (s : State) (c : Call) (small : c .second ≤ 1) where

@@ -6,3 +6,4 @@ pub mod PlaceTests
 pub mod KeepingLaws
 pub mod HypervisorLaws
 pub mod FaultLaws
+pub mod QuickLaws

@@ -1,7 +1,7 @@
 -- Loops over the numbers below one: what a test of all of them, a count and a search come to, number by number.
 use Prim.Native.Nat.{ℕ, zero, suc, _+_, _≤_, _<_}
 use mathlib.Core.Path.{_≡_, refl, sym, _∙_}
-use mathlib.Core.Bool.{Bool, true, false, not, _||_}
+use mathlib.Core.Bool.{Bool, true, false, not, _&&_, _||_}
 use native.Mathlib.Numerals.{add-one}
 use native.Mathlib.Omega.{arith}
 use lib.Dec.{ltb}
@@ -36,6 +36,17 @@ module _ (test : ℕ → Bool) where
       (λ (t : allBelow m test ≡ true).
       not-both (allBelow n test) (all-below n test (λ i b. all-below-at m test t i (omega arith))) (sym e ∙ not-true answer f))
       (λ (g : allBelow m test ≡ false). sym g)
+
+  -- the answer so far, number by number
+  pub so-far-none : true ≡ allBelow 0 test
+  so-far-none = sym all-below-none
+
+  pub so-far-more : (i : ℕ) (holds so-far : Bool) → so-far ≡ allBelow i test → holds ≡ test i → (so-far && holds) ≡ allBelow (i + 1) test
+  unfolding allBelow
+  so-far-more i holds so-far h e = rw (add-one, h, e)
+
+  pub so-far-done : (n i : ℕ) (so-far : Bool) → i ≤ n → n ≤ i → so-far ≡ allBelow i test → so-far ≡ allBelow n test
+  so-far-done n i so-far l g h = let e : i ≡ n = omega arith in rw e at h
 
   -- no more numbers are counted than there are
   pub count-below-small : (n : ℕ) → countBelow n test ≤ n

@@ -1,6 +1,6 @@
 -- The rules of places as the code tests them: what each definition gives on each way out of the function that tests it.
-use Prim.Native.Nat.{ℕ, zero, suc, _+_, _-_, _*_, _/_, _%_, _≤_, _<_}
-use mathlib.Core.Path.{_≡_, refl, sym, _∙_}
+use Prim.Native.Nat.{ℕ, zero, suc, _+_, _-_, _*_, _/_, _%_, _^_, _≤_, _<_}
+use mathlib.Core.Path.{_≡_, refl, sym, ap, _∙_}
 use mathlib.Core.Bool.{Bool, true, false, not, _&&_, _||_, and-false}
 use mathlib.Core.List.{List}
 use native.Mathlib.Omega.{arith}
@@ -13,8 +13,10 @@ use Rattle.words.proofs.PlaceLaws.{domain-back, space-back, selector-back, made
 use Rattle.interface.specs.Places.{Cap, State, Tables, live, nothing, parentless, free, placeTableWords, objectAt, shown, kindOf, greatestOf, greatest}
 use Rattle.interface.specs.Boot.{hypervisor, cpus, rootPd, bootRecord, hypervisorCap, bootCap}
 use Rattle.interface.specs.Damage.{between1, sameCap, fixed-place, hasPd, null-place, isResource, live-place, shallow}
+use Rattle.interface.specs.Basics.{if_then_else_, allBelow}
+use Rattle.interface.proofs.BelowLaws.{all-below-at}
 use Rattle.interface.proofs.BoolLaws.{cases, and-right, both, same-test, or-none-left, or-none-right}
-use Rattle.interface.proofs.PlaceFacts.{same-cap, some-live}
+use Rattle.interface.proofs.PlaceFacts.{same-cap, some-live, more-live}
 use Rattle.soundness.specs.Keeping.{parentFits, lineageKeeps, placeKeeps, Numbered, Kept, Around}
 use Rattle.soundness.proofs.PdLaws.{home-counted}
 
@@ -52,6 +54,31 @@ space-at domain (suc (suc (suc n))) selector h l = absurd (omega arith)
 pub space-so : (place : ℕ) → place / selectors object % spaces ≡ spaceOf place
 space-so place =
     rw (made-so place) at (space-at (domainOf place) (spaceOf place) (selectorOf place) (space-small place) (selector-small place))
+
+-- of a number with every third bit set, the bit that a block of places and a space choose tells whether the block is of that space
+abbrev sameAnswer : Bool → Bool → Bool
+sameAnswer a b = if a then b else not b
+
+same-answer : (a b : Bool) → sameAnswer a b ≡ true → a ≡ b
+same-answer true true h = refl
+same-answer true false h = sym h
+same-answer false true h = h
+same-answer false false h = refl
+
+every-third : allBelow (domains * spaces) (λ k. allBelow spaces (λ s. sameAnswer (eqb (153391689 / 2 ^ (k + spaces - s) % 2) 1) (eqb (k % spaces) s))) ≡ true
+unfolding allBelow
+every-third = refl
+
+pub turn-tells : (place space : ℕ) → place < places → space < spaces →
+    eqb (153391689 / 2 ^ (place / selectors object + spaces - space) % 2) 1 ≡ eqb (spaceOf place) space
+turn-tells place space l h =
+    let k = place / selectors object in
+    let turn : eqb (153391689 / 2 ^ (k + spaces - space) % 2) 1 ≡ eqb (k % spaces) space =
+    same-answer (eqb (153391689 / 2 ^ (k + spaces - space) % 2) 1) (eqb (k % spaces) space)
+    (all-below-at spaces (λ s. sameAnswer (eqb (153391689 / 2 ^ (k + spaces - s) % 2) 1) (eqb (k % spaces) s))
+    (all-below-at (domains * spaces)
+    (λ j. allBelow spaces (λ s. sameAnswer (eqb (153391689 / 2 ^ (j + spaces - s) % 2) 1) (eqb (j % spaces) s))) every-third k (omega arith)) space h) in
+    turn ∙ ap (λ (n : ℕ). eqb n space) (space-so place)
 
 -- domain 0 at boot
 boot-there : (space selector : ℕ) → space < spaces → selector < selectors space → bootCap (placeOf hypervisor space selector) ≡ hypervisorCap space selector
@@ -95,6 +122,19 @@ module _ (place : ℕ) (cap : Cap) where
     unfolding hypervisorCap
     boot-rest d e = e ∙ (rw (boot-selector, le-ltb (place - start object) rootPd d))
 
+-- its stretches: resources rise by one from a start, with the same permissions
+pub memory-stretch : (p : ℕ) → 0 ≤ p → p < start io → bootCap p ≡ parentless (p - 0) 7
+memory-stretch p g l = let same : p - 0 ≡ p = omega arith in rw same (sym (boot-memory p (parentless p 7) l refl))
+
+pub io-stretch : (p : ℕ) → start io ≤ p → p < start object → bootCap p ≡ parentless (p - start io) 1
+io-stretch p g l = sym (boot-io p (parentless (p - start io) 1) g l refl)
+
+pub idle-stretch : (p : ℕ) → start object ≤ p → p < start object + cpus → bootCap p ≡ parentless (p - start object) 1
+idle-stretch p g l = sym (boot-idle p (parentless (p - start object) 1) g (omega arith) (omega arith) refl)
+
+pub interrupt-stretch : (p : ℕ) → start object + cpus ≤ p → p < start object + rootPd → bootCap p ≡ parentless (p - start object) 3
+interrupt-stretch p g l = sym (boot-interrupt p (parentless (p - start object) 3) (omega arith) (omega arith) (omega arith) (omega arith) refl)
+
 -- domain 0 is the first stride
 pub first-stride : (place : ℕ) → ltb place stride ≡ eqb (domainOf place) hypervisor
 first-stride place =
@@ -131,15 +171,34 @@ module _ (s : State) (p : ℕ) where
   unfolding fixed-place
   fixed-same same a b l e f h = h ∙ rw (← first-stride p, lt-ltb p stride l, e, f)
 
+  pub fixed-null : (same : Bool) (a b : Cap) → start object + rootPd ≤ p → p < stride → a ≡ s .caps p → b ≡ nothing → same ≡ sameCap a b → same ≡ fixed-place s p
+  fixed-null same a b g l e f h = fixed-same same a b l e (boot-rest p b (omega arith) l (omega arith) f) h
+
+  pub fixed-stretch : (from permissions : ℕ) (same : Bool) (a b : Cap) → p < stride → bootCap p ≡ parentless (p - from) permissions → a ≡ s .caps p →
+      b ≡ parentless (p - from) permissions → same ≡ sameCap a b → same ≡ fixed-place s p
+  fixed-stretch from permissions same a b l boots e f h = fixed-same same a b l e (f ∙ sym boots) h
+
   -- the parent of a capability
   pub parent-past : (space : ℕ) (cap : Cap) (q : ℕ) → places ≤ q → false ≡ parentFits s space cap q
   parent-past space cap q l = rw (le-ltb q places l)
 
-  pub parent-so : (space : ℕ) (cap : Cap) (q : ℕ) (above : Cap) (other : ℕ) (inside : Bool) → q < places → above ≡ s .caps q → other ≡ spaceOf q →
-      inside ≡ within (cap .permissions) (above .permissions) →
-      (ltb 0 (above .permissions) && eqb other space && eqb (above .resource) (cap .resource) && inside && eqb (above .depth + 1) (cap .depth)) ≡
-      parentFits s space cap q
-  parent-so space cap q above other inside l e a h = rw (h, e, a, lt-ltb q places l)
+  pub parent-so : (space : ℕ) (cap : Cap) (q : ℕ) (above : Cap) (of-space inside : Bool) → 0 < cap .permissions → q < places → above ≡ s .caps q →
+      of-space ≡ eqb (spaceOf q) space → inside ≡ within (cap .permissions) (above .permissions) →
+      (of-space && eqb (above .resource) (cap .resource) && inside && eqb (above .depth + 1) (cap .depth)) ≡ parentFits s space cap q
+  parent-so space cap q above of-space inside some l e a h =
+      cases (within (cap .permissions) (above .permissions))
+      (λ (t : within (cap .permissions) (above .permissions) ≡ true).
+      let alive : live above ≡ true = more-live cap above t (lt-ltb 0 (cap .permissions) some) in
+      rw (h, t, a, lt-ltb q places l, ← e, alive, t))
+      (λ (f : within (cap .permissions) (above .permissions) ≡ false).
+      rw (
+        h,
+        f,
+        and-false (of-space && eqb (above .resource) (cap .resource)),
+        ← e,
+        f,
+        and-false (ltb q places && live above && eqb (spaceOf q) space && eqb (above .resource) (cap .resource)),
+      ))
 
   module _ (cap : Cap) (held : cap ≡ s .caps p) where
     pub lineage-none : (space : ℕ) → cap .parent ≡ 0 → space ≡ spaceOf p → (eqb (cap .depth) 0 && (eqb space object || ltb p stride)) ≡ lineageKeeps s p
@@ -268,6 +327,21 @@ module _ (number p : ℕ) (g : selectors object * number ≤ p) (l : p < selecto
       let few : p < stride * (pds + 1) = ltb-true p (stride * (pds + 1)) t in
       lt-ltb number (spaces * (pds + 1)) (omega arith)) ∙
       home-below numbered caps p (omega arith)
+
+  pub homeless-there : {table : List ℕ} {pds : ℕ} → Numbered table pds → (caps : ℕ → Cap) → spaces ≤ number → spaces * (pds + 1) ≤ number →
+      (eqb (domainOf p) hypervisor || hasPd (record { caps = caps; objects = objectAt table }) (domainOf p)) ≡ false
+  homeless-there {pds = pds} numbered caps b past = sym (home-there numbered caps b) ∙ le-ltb number (spaces * (pds + 1)) past
+
+  pub around-home : (tables : Tables) {pds : ℕ} → length (tables .places) ≡ placeTableWords → Kept (tables .objects) pds → spaces ≤ number → number < domains * spaces →
+      number < spaces * (pds + 1) → Around tables p (number % spaces) true
+  around-home tables {pds} long kept b d few =
+      record {
+        places-long = long;
+        objects-long = kept .numbered .long;
+        is-place = omega arith;
+        in-space = space-there;
+        at-home = sym (lt-ltb number (spaces * (pds + 1)) few) ∙ home-there (kept .numbered) (shown tables .caps) b;
+      }
 
   pub around-there : (tables : Tables) {pds : ℕ} → length (tables .places) ≡ placeTableWords → Kept (tables .objects) pds → spaces ≤ number → number < domains * spaces →
       Around tables p (number % spaces) (ltb number (spaces * (pds + 1)))

@@ -1,17 +1,17 @@
 -- The rules of records as the code tests them: what each definition gives on each way out of the function that tests it.
 use Prim.Native.Nat.{ℕ, zero, suc, _+_, _-_, _≤_, _<_}
 use mathlib.Core.Path.{_≡_, refl, sym, _∙_}
-use mathlib.Core.Bool.{Bool, true, false, not, _&&_, _||_}
+use mathlib.Core.Bool.{Bool, true, false, not, _&&_, _||_, and-false}
 use native.Mathlib.Omega.{arith}
 use lib.Dec.{eqb, leb, ltb}
-use borrow.Author.Tests.{ltb-true, ltb-false, leb-true, lt-ltb, le-ltb, le-leb, lt-leb, eq-eqb, ne-eqb, not-false}
+use borrow.Author.Tests.{ltb-true, ltb-false, leb-true, lt-ltb, le-ltb, le-leb, lt-leb, eqb-true, eqb-false, eq-eqb, ne-eqb, not-false}
 use Rattle.words.specs.Sizes.{object, domains, selectors, records, recordWords}
 use Rattle.interface.specs.Basics.{if_then_else_, allBelow}
 use Rattle.interface.specs.Places.{State, free, PD, EC, SC, PT, SM, kindOf, namedWords, domainWord, cpuWord, eventBaseWord, ecWord, priorityWord, quantumWord}
 use Rattle.interface.specs.Boot.{root, cpus, rootPd, rootEc, rootSc, noEc, rootPriority, rootQuantum, bootRecord}
 use Rattle.interface.specs.Damage.{fixed-record, interrupt-rule, unnamed-rule, used-first, pdsBelow, pd-rule, hasPd, isEc, ec-rule, between1, greatestPriority, greatestQuantum, sc-rule, pt-rule}
 use Rattle.interface.proofs.BoolLaws.{cases, not-both, and-left, and-right, or-none-left, or-none-right, not-asked}
-use Rattle.soundness.specs.Keeping.{hasWords}
+use Rattle.soundness.specs.Keeping.{hasWords, recordKeeps}
 
 module _ (s : State) (r : ℕ) where
   -- the tests of an SC
@@ -98,11 +98,14 @@ module _ (s : State) (r : ℕ) where
     used-after before u n e = rw (ne-eqb (kindOf s r) free (λ f. u (known ∙ f)), ne-eqb r 0 n, e)
 
     -- PDs
-    pub pd-so : (domain before : ℕ) → domain ≡ s .objects r domainWord → before ≡ pdsBelow s r →
-        (not (eqb kind PD) || (eqb domain (before + 1) && ltb domain domains)) ≡ pd-rule s r
+    pub pd-not : (kind ≡ PD → ⊥) → true ≡ pd-rule s r
     unfolding pd-rule
-    pd-so domain before d b =
-        cases (eqb (kindOf s r) PD) (λ (t : eqb (kindOf s r) PD ≡ true). rw (known, d, b, t)) (λ (f : eqb (kindOf s r) PD ≡ false). rw (known, d, b, f))
+    pd-not n = rw (ne-eqb (kindOf s r) PD (λ e. n (known ∙ e)))
+
+    pub pd-so : (domain before : ℕ) → kind ≡ PD → domain ≡ s .objects r domainWord → before ≡ pdsBelow s r →
+        (eqb domain (before + 1) && ltb domain domains) ≡ pd-rule s r
+    unfolding pd-rule
+    pd-so domain before e d b = rw (eq-eqb (kindOf s r) PD (sym known ∙ e), d, b)
 
     -- ECs
     pub ec-not : (kind ≡ EC → ⊥) → true ≡ ec-rule s r
@@ -158,3 +161,135 @@ module _ (s : State) (r : ℕ) where
 
   pub pd-none : (kind : ℕ) → kind ≡ kindOf s r → (kind ≡ PD → ⊥) → _≡_ {A = ℕ} 0 (if eqb (kindOf s r) PD then 1 else 0)
   pd-none kind known n = rw (ne-eqb (kindOf s r) PD (λ e. n (known ∙ e)))
+
+-- a free record keeps the rules where it is past the fixed ones and all 0
+module _ (s : State) (r kind : ℕ) (known : kind ≡ kindOf s r) (none : kind ≡ free) where
+  is-free : kindOf s r ≡ free
+  is-free = sym known ∙ none
+
+  -- it has the words of no used record
+  no-words : (other first second third : ℕ) → (other ≡ free → ⊥) → hasWords s r other first second third ≡ false
+  unfolding hasWords allBelow
+  no-words other first second third used = rw (is-free, ne-eqb free other (λ e. used (sym e)))
+
+  fixed-broken : r ≤ rootSc → (fixed-record s r && interrupt-rule s r) ≡ false
+  fixed-broken l =
+      cases (ltb r cpus)
+      (λ (t : ltb r cpus ≡ true).
+      rw (sym (fixed-idle s r false (ltb-true r cpus t) (sym (no-words SC noEc 0 0 (λ e. omega arith))))))
+      (λ (f : ltb r cpus ≡ false).
+      let from : cpus ≤ r = ltb-false r cpus f in
+      cases (ltb r rootPd)
+      (λ (t : ltb r rootPd ≡ true).
+      let before = ltb-true r rootPd t in
+      rw (sym (interrupt-so s r kind known), f, lt-leb rootPd r before, none, and-false (fixed-record s r)))
+      (λ (g : ltb r rootPd ≡ false).
+      let late : rootPd ≤ r = ltb-false r rootPd g in
+      cases (eqb r rootPd)
+      (λ (t : eqb r rootPd ≡ true). rw (sym (fixed-pd s r false (eqb-true r rootPd t) (sym (no-words PD root 0 0 (λ e. omega arith))))))
+      (λ (a : eqb r rootPd ≡ false).
+      cases (eqb r rootEc)
+      (λ (t : eqb r rootEc ≡ true). rw (sym (fixed-ec s r false (eqb-true r rootEc t) (sym (no-words EC root 0 0 (λ e. omega arith))))))
+      (λ (b : eqb r rootEc ≡ false).
+      let is-sc : r ≡ rootSc = omega (arith, eqb-false r rootPd a, eqb-false r rootEc b) in
+      rw (sym (fixed-sc s r false is-sc (sym (no-words SC rootEc rootPriority rootQuantum (λ e. omega arith)))))))))
+
+  fixed-kept : rootSc < r → (fixed-record s r && interrupt-rule s r) ≡ true
+  fixed-kept l =
+      rw (
+        sym (fixed-other s r (omega arith) (λ e. omega arith) (λ e. omega arith) (λ e. omega arith)),
+        sym (interrupt-so s r kind known),
+        le-ltb r cpus (omega arith),
+        le-leb rootPd r (omega arith),
+      )
+
+  free-rest : (zeros : Bool) → zeros ≡ hasWords s r 0 0 0 0 → (first : Bool) → (fixed-record s r && interrupt-rule s r) ≡ first → (first && zeros) ≡ recordKeeps s r
+  unfolding recordKeeps unnamed-rule
+  free-rest zeros h first e =
+      rw (
+        e,
+        is-free,
+        sym (free-so s r kind known zeros none h),
+        sym (ec-not s r kind known (λ f. omega arith)),
+        sym (sc-not s r kind known (rw none)),
+        sym (pt-not s r kind known (λ f. omega arith)),
+      )
+      (last first zeros)
+    where
+      last : (first zeros : Bool) → (first && zeros) ≡ (first && true && zeros && true && true && true)
+      last true true = refl
+      last true false = refl
+      last false true = refl
+      last false false = refl
+
+  pub free-keeps : (zeros : Bool) → zeros ≡ hasWords s r 0 0 0 0 → (ltb rootSc r && zeros) ≡ recordKeeps s r
+  free-keeps zeros h =
+      cases (ltb rootSc r) (λ (t : ltb rootSc r ≡ true). rw t (free-rest zeros h true (fixed-kept (ltb-true rootSc r t))))
+      (λ (f : ltb rootSc r ≡ false). rw f (free-rest zeros h false (fixed-broken (ltb-false rootSc r f))))
+
+-- a semaphore's record keeps the rules where it is none of the fixed ones, has its count alone, and comes after a used one
+module _ (s : State) (r : ℕ) (known : kindOf s r ≡ SM) where
+  other-words : (other first second third : ℕ) → (other ≡ SM → ⊥) → hasWords s r other first second third ≡ false
+  unfolding hasWords allBelow
+  other-words other first second third apart = rw (known, ne-eqb SM other (λ e. apart (sym e)))
+
+  fixed-not : cpus ≤ r → (ltb r rootPd || ltb rootSc r) ≡ fixed-record s r
+  fixed-not l =
+      cases (ltb r rootPd)
+      (λ (t : ltb r rootPd ≡ true).
+      let before = ltb-true r rootPd t in
+      rw t (fixed-other s r l (λ e. omega arith) (λ e. omega arith) (λ e. omega arith)))
+      (λ (f : ltb r rootPd ≡ false).
+      let late = ltb-false r rootPd f in
+      cases (ltb rootSc r)
+      (λ (t : ltb rootSc r ≡ true).
+      let past = ltb-true rootSc r t in
+      rw (f, t) (fixed-other s r l (λ e. omega arith) (λ e. omega arith) (λ e. omega arith)))
+      (λ (g : ltb rootSc r ≡ false).
+      let upto = ltb-false rootSc r g in
+      rw (f, g)
+      (cases (eqb r rootPd)
+      (λ (t : eqb r rootPd ≡ true). fixed-pd s r false (eqb-true r rootPd t) (sym (other-words PD root 0 0 (λ e. omega arith))))
+      (λ (a : eqb r rootPd ≡ false).
+      cases (eqb r rootEc)
+      (λ (t : eqb r rootEc ≡ true). fixed-ec s r false (eqb-true r rootEc t) (sym (other-words EC root 0 0 (λ e. omega arith))))
+      (λ (b : eqb r rootEc ≡ false).
+      let is-sc : r ≡ rootSc = omega (arith, eqb-false r rootPd a, eqb-false r rootEc b) in
+      fixed-sc s r false is-sc (sym (other-words SC rootEc rootPriority rootQuantum (λ e. omega arith))))))))
+
+  pub semaphore-early : r < cpus → false ≡ recordKeeps s r
+  unfolding recordKeeps
+  semaphore-early l = rw (sym (fixed-idle s r false l (sym (other-words SC noEc 0 0 (λ e. omega arith)))))
+
+  pub semaphore-late : (second third fourth before : ℕ) → cpus ≤ r → second ≡ s .objects r 2 → third ≡ s .objects r 3 → fourth ≡ s .objects r 4 →
+      before ≡ kindOf s (r - 1) →
+      ((ltb r rootPd || ltb rootSc r) && (eqb second 0 && eqb third 0 && eqb fourth 0) && not (eqb before free)) ≡ recordKeeps s r
+  unfolding recordKeeps
+  semaphore-late second third fourth before l a b d e =
+      let interrupts : interrupt-rule s r ≡ true = sym (interrupt-so s r SM (sym known)) ∙ last-or (ltb r cpus || leb rootPd r) in
+      let unnamed : unnamed-rule s r ≡ (eqb second 0 && eqb third 0 && eqb fourth 0) = sym (unnamed-so s r SM second third fourth (sym known) a b d) in
+      let used : used-first s r ≡ not (eqb before free) = sym (used-after s r SM (sym known) before (λ f. omega arith) (λ f. omega arith) e) in
+      rw (
+        fixed-not l,
+        interrupts,
+        unnamed,
+        used,
+        sym (ec-not s r SM (sym known) (λ f. omega arith)),
+        sym (sc-not s r SM (sym known) refl),
+        sym (pt-not s r SM (sym known) (λ f. omega arith)),
+      )
+      (all-true (fixed-record s r) (eqb second 0 && eqb third 0 && eqb fourth 0) (not (eqb before free)))
+    where
+      last-or : (x : Bool) → (x || true) ≡ true
+      last-or true = refl
+      last-or false = refl
+
+      all-true : (x y z : Bool) → (x && y && z) ≡ (x && true && y && z && true && true && true)
+      all-true true true true = refl
+      all-true true true false = refl
+      all-true true false true = refl
+      all-true true false false = refl
+      all-true false true true = refl
+      all-true false true false = refl
+      all-true false false true = refl
+      all-true false false false = refl

@@ -1,16 +1,16 @@
 -- The rules of damage taken together: all of a record's and all of a place's, and a rule by its number.
-use Prim.Native.Nat.{ℕ, _+_, _-_, _<_}
+use Prim.Native.Nat.{ℕ, _+_, _-_, _*_, _<_}
 use mathlib.Core.Path.{_≡_}
 use mathlib.Core.Bool.{Bool, true, not, _&&_, _||_}
 use mathlib.Core.List.{List, [], _∷_}
-use lib.Dec.{eqb, ltb}
+use lib.Dec.{eqb, leb, ltb}
 use lib.ListN.{length, getD}
-use Rattle.words.specs.Sizes.{domainOf, spaceOf, places, records, recordWords}
+use Rattle.words.specs.Sizes.{object, stride, domainOf, spaceOf, places, placeWords, records, recordWords, greatestDepth}
 use Rattle.words.specs.Permissions.{within}
 use Rattle.interface.specs.Basics.{if_then_else_, word, allBelow, lowest}
-use Rattle.interface.specs.Places.{Cap, State, Tables, live, nothing, placeTableWords, objectTableWords, capAt, objectAt, shown}
+use Rattle.interface.specs.Places.{Cap, State, Tables, live, nothing, kindOf, greatestOf, placeTableWords, objectTableWords, capAt, objectAt, shown}
 use Rattle.interface.specs.Boot.{hypervisor}
-use Rattle.interface.specs.Damage.{Rule, of-records, fixed-record, fixed-place, interrupt-rule, unnamed-rule, used-first, pdsBelow, pd-rule, hasPd, ec-rule, sc-rule, pt-rule, null-place, parentless-place, live-place, shallow, rulesOfDamage}
+use Rattle.interface.specs.Damage.{Rule, sameCap, of-records, fixed-record, fixed-place, interrupt-rule, unnamed-rule, used-first, pdsBelow, pd-rule, hasPd, ec-rule, sc-rule, pt-rule, null-place, parentless-place, live-place, shallow, rulesOfDamage}
 
 -- what an object table alone shows, and what a place table alone shows
 abbrev pub recordsIn : List ℕ → State
@@ -51,6 +51,25 @@ parentFits s space cap parent =
 -- whether a place has a fitting parent or none
 abbrev pub lineageKeeps : State → ℕ → Bool
 lineageKeeps s p = if eqb (s .caps p .parent) 0 then parentless-place s p else parentFits s (spaceOf p) (s .caps p) (s .caps p .parent - 1)
+
+-- a shorter test of a place outside domain 0: a live one with a parent is held against that alone, whose resource and greatest permissions are its own
+unfoldable pub quickKeeps : State → ℕ → Bool
+quickKeeps s p =
+    let cap = s .caps p in
+    if ltb p stride then true else
+    if eqb (cap .permissions) 0 then sameCap cap nothing else
+    if eqb (cap .parent) 0 then
+    (eqb (domainOf p) hypervisor || hasPd s (domainOf p)) && eqb (spaceOf p) object && eqb (cap .depth) 0 &&
+    (ltb (cap .resource) records && leb (cap .permissions) (greatestOf (kindOf s (cap .resource))))
+    else (eqb (domainOf p) hypervisor || hasPd s (domainOf p)) && parentFits s (spaceOf p) cap (cap .parent - 1) && leb (cap .depth) greatestDepth
+
+-- so many places are looked at together
+abbrev pub group : ℕ
+group = 16
+
+-- whether the words of such places are all 0
+abbrev pub blank : List ℕ → ℕ → Bool
+blank table first = allBelow (placeWords * group) (λ i. eqb (word table (placeWords * first + i)) 0)
 
 -- tables of the right lengths, a place of a space, and whether its domain is 0 or has a PD
 pub record Around (tables : Tables) (place space : ℕ) (home : Bool) : Type 0 where

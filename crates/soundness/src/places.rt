@@ -1,14 +1,15 @@
 // The rules that places keep.
 ghost use mathlib.Core.Path.{_≡_};
-ghost use Prim.Native.Nat.{_+_, _*_, _<_, _≤_};
-ghost use mathlib.Core.Bool.{true, _||_};
+ghost use Prim.Native.Nat.{ℕ, _+_, _-_, _*_, _<_, _≤_};
+ghost use mathlib.Core.Bool.{true, _&&_, _||_};
+ghost use lib.Dec.{eqb, leb, ltb};
 ghost use lib.ListN.{length};
-ghost use Rattle.words.specs.Sizes.{domains, object, spaces, selectors, stride, spaceOf, places};
+ghost use Rattle.words.specs.Sizes.{domains, object, spaces, selectors, start, stride, spaceOf, places, records};
 ghost use Rattle.interface.specs.Basics.{allBelow};
-ghost use Rattle.interface.specs.Places.{nothing, placeTableWords, live, parentless, capAt, shown, greatestOf, greatest, Tables};
-ghost use Rattle.interface.specs.Boot.{bootCap};
+ghost use Rattle.interface.specs.Places.{nothing, kindWord, objectAt, objectTableWords, placeTableWords, live, parentless, capAt, shown, greatestOf, greatest, Tables};
+ghost use Rattle.interface.specs.Boot.{rootPd, bootCap};
 ghost use Rattle.interface.specs.Damage.{sameCap, fixed-place, live-place};
-ghost use Rattle.soundness.specs.Keeping.{placesIn, placeKeeps, parentFits, lineageKeeps, Kept, Around};
+ghost use Rattle.soundness.specs.Keeping.{placesIn, placeKeeps, parentFits, lineageKeeps, quickKeeps, group, blank, Kept, Around};
 use crate::records;
 use descriptor::Cap;
 use words::permissions;
@@ -18,6 +19,21 @@ use words::sizes;
 const SPACES: u32 = 3;
 
 const ALL_SPACES: u32 = 24;
+
+// Bits 0, 3, 6 and so on up to 27.
+const EVERY_THIRD_BIT: u32 = 153391689;
+
+// Where domain 0's capabilities for the idle SCs end, and those for the interrupts.
+const IDLE_END: u32 = 132;
+
+const INTERRUPTS_END: u32 = 156;
+
+// Places are looked at in groups, so that null ones are passed over quickly: the places of a group, its words, and the groups of a space.
+const GROUP: u32 = 16;
+
+const GROUP_WORDS: usize = 64;
+
+const GROUPS: u32 = 4;
 
 // What a place holds.
 pub fn cap_at(table: &[u32], place: u32) -> Cap
@@ -38,6 +54,14 @@ pub fn space_of(place: u32) -> u32
     ensures { λ r. ⌜ r ≡ spaceOf place ⌝ }
 {
     place / sizes::SELECTORS % SPACES
+}
+
+// Whether a place is of a space. Spaces take turns, so of a number with every third bit set the bit that the place's block and the space choose tells.
+fn is_of_space(place: u32, space: u32) -> bool
+    requires { ⌜ (place < places) × (space < spaces) ⌝ }
+    ensures { λ r. ⌜ r ≡ eqb (spaceOf place) space ⌝ }
+{
+    (EVERY_THIRD_BIT >> (place / sizes::SELECTORS + SPACES - space)) % 2 == 1
 }
 
 // Whether two places show the same.
@@ -128,17 +152,16 @@ pub fn null_keeps(cap: Cap) -> bool
     (0 < cap.permissions) | is_same(cap, without_parent(0, 0))
 }
 
-// Whether a place may be the parent of a capability in a space.
+// Whether a place may be the parent of a capability in a space. A place that has the capability's permissions is live.
 fn parent_fits(table: &[u32], space: u32, cap: Cap, parent: u32) -> bool
-    requires { ⌜ length (now table) ≡ placeTableWords ⌝ }
+    requires { ⌜ (length (now table) ≡ placeTableWords) × (0 < cap .permissions) × (space < spaces) ⌝ }
     ensures { λ r. ⌜ r ≡ parentFits (placesIn (now (table .entry))) space cap parent ⌝ }
 {
     if sizes::PLACES <= parent {
         return false;
     }
     let above = cap_at(table, parent);
-    (0 < above.permissions)
-        & (space_of(parent) == space)
+    is_of_space(parent, space)
         & (above.resource == cap.resource)
         & permissions::is_within(cap.permissions, above.permissions)
         & (above.depth as u64 + 1 == cap.depth as u64)
@@ -146,7 +169,7 @@ fn parent_fits(table: &[u32], space: u32, cap: Cap, parent: u32) -> bool
 
 // Whether a place has a fitting parent or none.
 fn lineage_keeps(table: &[u32], place: u32, space: u32, cap: Cap) -> bool
-    requires { ⌜ (length (now table) ≡ placeTableWords) × (space ≡ spaceOf place) × (cap ≡ capAt (now table) place) ⌝ }
+    requires { ⌜ (length (now table) ≡ placeTableWords) × (space ≡ spaceOf place) × (cap ≡ capAt (now table) place) × (0 < cap .permissions) ⌝ }
     ensures { λ r. ⌜ r ≡ lineageKeeps (placesIn (now (table .entry))) place ⌝ }
 {
     if cap.parent == 0 {
@@ -176,34 +199,103 @@ pub fn live_keeps(
     lineage_keeps(table, place, space, cap)
 }
 
-// Whether a place outside domain 0 keeps the rules.
-fn place_keeps(table: &[u32], objects: &[u32], place: u32, space: u32, home: bool) -> bool
-    requires { ⌜ Around (record { places = now table; objects = now objects }) place space home × (stride ≤ place) ⌝ }
-    ensures { λ r. ⌜ r ≡ placeKeeps (shown (record { places = now (table .entry); objects = now (objects .entry) })) place ⌝ }
+// Whether an object capability without a parent names a record whose greatest permissions hold its own.
+fn names_object(objects: &[u32], cap: Cap) -> bool
+    requires { ⌜ length (now objects) ≡ objectTableWords ⌝ }
+    ensures { λ r. ⌜ r ≡ (ltb (cap .resource) records && leb (cap .permissions) (greatestOf (objectAt (now (objects .entry)) (cap .resource) kindWord))) ⌝ }
+{
+    if sizes::RECORDS <= cap.resource {
+        return false;
+    }
+    cap.permissions <= greatest_of(records::kind_of(objects, cap.resource))
+}
+
+// Whether a place of a domain with a PD passes the shorter test.
+fn quick_keeps(table: &[u32], objects: &[u32], place: u32, space: u32) -> bool
+    requires { ⌜ Around (record { places = now table; objects = now objects }) place space true × (stride ≤ place) ⌝ }
+    ensures { λ r. ⌜ r ≡ quickKeeps (shown (record { places = now (table .entry); objects = now (objects .entry) })) place ⌝ }
 {
     let cap = cap_at(table, place);
     if cap.permissions == 0 {
-        return null_keeps(cap);
+        return is_same(cap, without_parent(0, 0));
     }
-    live_keeps(table, objects, place, space, home, cap) & (cap.depth <= sizes::GREATEST_DEPTH)
+    if cap.parent == 0 {
+        return (space == sizes::OBJECT) & (cap.depth == 0) & names_object(objects, cap);
+    }
+    parent_fits(table, space, cap, cap.parent - 1) & (cap.depth <= sizes::GREATEST_DEPTH)
 }
 
-// Whether the places up to the end of a space outside domain 0 keep the rules, where those before it do, the records keep theirs and there are so many PDs.
-fn space_keeps(table: &[u32], objects: &[u32], pds: u32, number: u32) -> bool
-    requires { ⌜ (length (now table) ≡ placeTableWords) × Kept (now objects) pds × (spaces ≤ number) × (number < domains * spaces) × (allBelow (selectors object * number) (placeKeeps (shown (record { places = now table; objects = now objects }))) ≡ true) ⌝ }
-    ensures { λ r. ⌜ r ≡ allBelow (selectors object * (number + 1)) (placeKeeps (shown (record { places = now (table .entry); objects = now (objects .entry) }))) ⌝ }
+// Whether the words of a group of places are all 0.
+fn is_blank(table: &[u32], first: u32) -> bool
+    requires { ⌜ (length (now table) ≡ placeTableWords) × (first + group ≤ places) ⌝ }
+    ensures { λ r. ⌜ r ≡ blank (now (table .entry)) first ⌝ }
 {
+    let start = sizes::PLACE_WORDS * (first as usize);
+    let mut is_0 = true;
+    let mut i: usize = 0;
+    while i < GROUP_WORDS {
+        is_0 = is_0 & (table[start + i] == 0);
+        i += 1;
+    }
+    is_0
+}
+
+// Whether the places up to the end of a group in a space pass the shorter test, where those before it do.
+fn group_keeps(table: &[u32], objects: &[u32], pds: u32, number: u32, first: u32) -> bool
+    requires { ⌜ (length (now table) ≡ placeTableWords) × Kept (now objects) pds × (spaces ≤ number) × (number < domains * spaces) × (selectors object * number ≤ first) × (first + group ≤ selectors object * (number + 1)) × (allBelow first (quickKeeps (shown (record { places = now table; objects = now objects }))) ≡ true) ⌝ }
+    ensures { λ r. ⌜ r ≡ allBelow (first + group) (quickKeeps (shown (record { places = now (table .entry); objects = now (objects .entry) }))) ⌝ }
+{
+    if is_blank(table, first) {
+        return true;
+    }
+    if SPACES * (pds + 1) <= number {
+        return false;
+    }
     let space = number % SPACES;
-    let home = number < SPACES * (pds + 1);
-    let end = sizes::SELECTORS * (number + 1);
-    let mut at: u32 = sizes::SELECTORS * number;
+    let end = first + GROUP;
+    let mut at: u32 = first;
     while at < end {
-        if !place_keeps(table, objects, at, space, home) {
+        if !quick_keeps(table, objects, at, space) {
             return false;
         }
         at += 1;
     }
     true
+}
+
+// Whether the places up to the end of a space outside domain 0 pass the shorter test, where those before it do, the records keep their rules and there are so many PDs.
+fn space_keeps(table: &[u32], objects: &[u32], pds: u32, number: u32) -> bool
+    requires { ⌜ (length (now table) ≡ placeTableWords) × Kept (now objects) pds × (spaces ≤ number) × (number < domains * spaces) × (allBelow (selectors object * number) (quickKeeps (shown (record { places = now table; objects = now objects }))) ≡ true) ⌝ }
+    ensures { λ r. ⌜ r ≡ allBelow (selectors object * (number + 1)) (quickKeeps (shown (record { places = now (table .entry); objects = now (objects .entry) }))) ⌝ }
+{
+    let mut done: u32 = 0;
+    while done < GROUPS {
+        if !group_keeps(
+            table,
+            objects,
+            pds,
+            number,
+            sizes::SELECTORS * number + GROUP * done,
+        ) {
+            return false;
+        }
+        done += 1;
+    }
+    true
+}
+
+// Whether the places up to the end of a stretch are as at boot, where those before it are: resources rise by one from its start, with the same permissions.
+fn stretch_keeps(table: &[u32], start: u32, from: u32, end: u32, permissions: u32) -> bool
+    requires { ⌜ (length (now table) ≡ placeTableWords) × (start ≤ from) × (from ≤ end) × (end ≤ stride) × ((p : ℕ) → from ≤ p → p < end → bootCap p ≡ parentless (p - start) permissions) × (allBelow from (fixed-place (placesIn (now table))) ≡ true) ⌝ }
+    ensures { λ r. ⌜ r ≡ allBelow end (fixed-place (placesIn (now (table .entry)))) ⌝ }
+{
+    let mut keeps = true;
+    let mut at: u32 = from;
+    while at < end {
+        keeps = keeps & is_same(cap_at(table, at), without_parent(at - start, permissions));
+        at += 1;
+    }
+    keeps
 }
 
 // Whether each place of domain 0 is as at boot.
@@ -211,14 +303,39 @@ pub fn hypervisor_keeps(table: &[u32]) -> bool
     requires { ⌜ length (now table) ≡ placeTableWords ⌝ }
     ensures { λ r. ⌜ r ≡ allBelow stride (fixed-place (placesIn (now (table .entry)))) ⌝ }
 {
-    let mut at: u32 = 0;
+    if !stretch_keeps(table, 0, 0, sizes::IO_START, 7) {
+        return false;
+    }
+    if !stretch_keeps(
+        table,
+        sizes::IO_START,
+        sizes::IO_START,
+        sizes::OBJECT_START,
+        1,
+    ) {
+        return false;
+    }
+    if !stretch_keeps(table, sizes::OBJECT_START, sizes::OBJECT_START, IDLE_END, 1) {
+        return false;
+    }
+    if !stretch_keeps(table, sizes::OBJECT_START, IDLE_END, INTERRUPTS_END, 3) {
+        return false;
+    }
+    rest_keeps(table)
+}
+
+// Whether the places of domain 0 past its objects are null, where those before them are as at boot.
+fn rest_keeps(table: &[u32]) -> bool
+    requires { ⌜ (length (now table) ≡ placeTableWords) × (allBelow (start object + rootPd) (fixed-place (placesIn (now table))) ≡ true) ⌝ }
+    ensures { λ r. ⌜ r ≡ allBelow stride (fixed-place (placesIn (now (table .entry)))) ⌝ }
+{
+    let mut keeps = true;
+    let mut at: u32 = INTERRUPTS_END;
     while at < sizes::STRIDE {
-        if !fixed_keeps(table, at) {
-            return false;
-        }
+        keeps = keeps & is_same(cap_at(table, at), without_parent(0, 0));
         at += 1;
     }
-    true
+    keeps
 }
 
 // Whether each place keeps the rules, where the records keep theirs and domain 0 is as at boot.

@@ -6,7 +6,7 @@ ghost use lib.Dec.{eqb};
 ghost use lib.ListN.{length};
 ghost use Rattle.words.specs.Sizes.{records, recordWords};
 ghost use Rattle.interface.specs.Basics.{if_then_else_, allBelow};
-ghost use Rattle.interface.specs.Places.{PD, objectTableWords, domainWord, objectAt, kindOf};
+ghost use Rattle.interface.specs.Places.{PD, SM, objectTableWords, domainWord, objectAt, kindOf};
 ghost use Rattle.interface.specs.Damage.{fixed-record, interrupt-rule, unnamed-rule, used-first, pdsBelow, pd-rule, hasPd, isEc, ec-rule, sc-rule, pt-rule};
 ghost use Rattle.soundness.specs.Keeping.{recordsIn, hasWords, recordKeeps, Numbered};
 use words::sizes;
@@ -133,8 +133,11 @@ pub fn pd_keeps(objects: &[u32], number: u32, before: u32) -> bool
     requires { ⌜ (length (now objects) ≡ objectTableWords) × (number < records) × (before ≡ pdsBelow (recordsIn (now objects)) number) ⌝ }
     ensures { λ r. ⌜ r ≡ pd-rule (recordsIn (now (objects .entry))) number ⌝ }
 {
+    if kind_of(objects, number) != PD {
+        return true;
+    }
     let domain = word_of(objects, number, 1);
-    (kind_of(objects, number) != PD) | ((domain == before + 1) & (domain < sizes::DOMAINS))
+    (domain == before + 1) & (domain < sizes::DOMAINS)
 }
 
 // Rule 7: an EC has a domain with a PD, a CPU and an event base.
@@ -227,11 +230,32 @@ pub fn pds_keep(objects: &[u32]) -> bool
     true
 }
 
+// Whether a semaphore's record keeps the rules: it is none of the fixed ones, has its count alone, and comes after a used one.
+fn semaphore_keeps(objects: &[u32], number: u32) -> bool
+    requires { ⌜ (length (now objects) ≡ objectTableWords) × (number < records) × (kindOf (recordsIn (now objects)) number ≡ SM) ⌝ }
+    ensures { λ r. ⌜ r ≡ recordKeeps (recordsIn (now (objects .entry))) number ⌝ }
+{
+    if number < CPUS {
+        return false;
+    }
+    ((number < ROOT_PD) | (ROOT_SC < number))
+        & ((word_of(objects, number, 2) == 0)
+            & (word_of(objects, number, 3) == 0)
+            & (word_of(objects, number, 4) == 0))
+        & (kind_of(objects, number - 1) != FREE)
+}
+
 // Whether a record keeps the rules other than that of PDs, where there are so many PDs.
 fn record_keeps(objects: &[u32], number: u32, pds: u32) -> bool
     requires { ⌜ Numbered (now objects) pds × (number < records) ⌝ }
     ensures { λ r. ⌜ r ≡ recordKeeps (recordsIn (now (objects .entry))) number ⌝ }
 {
+    if kind_of(objects, number) == FREE {
+        return (ROOT_SC < number) & has_words(objects, number, 0, 0, 0, 0);
+    }
+    if kind_of(objects, number) == SM {
+        return semaphore_keeps(objects, number);
+    }
     let domain = word_of(objects, number, 1);
     fixed_keeps(objects, number)
         & interrupt_keeps(objects, number)

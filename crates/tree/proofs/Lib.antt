@@ -1,5 +1,7 @@
 -- What is proved of walks along parent links, of revocation and of the census.
 pub mod WalkLaws
 pub mod LinkLaws
+pub mod MarkLaws
 pub mod RevocationLaws
 pub mod CensusLaws
+pub mod SpaceLaws

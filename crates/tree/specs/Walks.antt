@@ -1,10 +1,11 @@
 -- Walks along the parent links of a place table.
-use Prim.Native.Nat.{ℕ, suc, _+_, _<_}
+use Prim.Native.Nat.{ℕ, _≤_, zero, suc, _+_, _*_, _/_, _%_, _<_}
 use mathlib.Core.Path.{_≡_}
 use mathlib.Core.Bool.{Bool, _&&_, _||_}
 use mathlib.Core.List.{List, [], _∷_}
 use Rattle.words.specs.Sizes.{spaceOf, places}
-use Rattle.interface.specs.Basics.{if_then_else_}
+use Rattle.words.specs.Permissions.{permits}
+use Rattle.interface.specs.Basics.{if_then_else_, word, listed}
 use Rattle.interface.specs.Places.{Cap, State, capAt}
 use Rattle.interface.specs.Effects.{among, below}
 
@@ -15,6 +16,12 @@ pub record Linked (caps : ℕ → Cap) : Type 0 where
   pub parent-space : (p q : ℕ) → p < places → caps p .parent ≡ suc q → spaceOf q ≡ spaceOf p
   pub parent-depth : (p q : ℕ) → p < places → caps p .parent ≡ suc q → caps p .depth ≡ suc (caps q .depth)
 
+-- some places of one space: a place, and as many as `size` says from it on
+pub record InSpace (first size : ℕ) : Type 0 where
+  pub first-place : first < places
+  pub ends : first + size ≤ places
+  pub one-space : (p : ℕ) → first ≤ p → p < first + size → spaceOf p ≡ spaceOf first
+
 -- the first place of a list that is among some places: its number plus 1, or 0 where there is none
 unfoldable pub firstAmong : ℕ → ℕ → List ℕ → ℕ
 firstAmong first size [] = 0
@@ -23,6 +30,19 @@ firstAmong first size (place ∷ list) = if among first size place then place + 
 -- whether a place loses permissions when those of some places are revoked
 abbrev pub cutAt : (ℕ → Cap) → ℕ → ℕ → Bool → ℕ → Bool
 cutAt caps first size self place = below caps first size place || (self && among first size place)
+
+-- a test's answers for some places from one on, as the bits of a number: the lowest is that of the first
+unfoldable pub packed : (ℕ → Bool) → ℕ → ℕ → ℕ
+packed test place zero = 0
+packed test place (suc n) = packed test (place + 1) n * 2 + (if test place then 1 else 0)
+
+-- a test's answers for all places, as words of 32 bits
+abbrev pub marksOf : (ℕ → Bool) → List ℕ
+marksOf test = listed (places / 32) (λ number. packed test (number * 32) 32)
+
+-- a place's bit of such words
+abbrev pub markAt : List ℕ → ℕ → Bool
+markAt marks place = permits (place % 32) (word marks (place / 32))
 
 -- a state that shows a place table; what is read of it here does not look at the objects
 abbrev pub placesOnly : List ℕ → State

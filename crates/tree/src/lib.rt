@@ -1,15 +1,15 @@
 // Walks along parent links: the nearest ancestor among some places, revocation, and the census.
 ghost use mathlib.Core.Path.{_≡_};
-ghost use Prim.Native.Nat.{_+_, _<_, _≤_};
+ghost use Prim.Native.Nat.{_+_, _%_, _<_, _≤_};
 ghost use mathlib.Core.List.{_∷_, _++_};
 ghost use lib.ListN.{length, drop};
 ghost use Rattle.words.specs.Sizes.{places};
-ghost use Rattle.interface.specs.Basics.{listed, put};
+ghost use Rattle.interface.specs.Basics.{put};
 ghost use Rattle.interface.specs.Places.{capAt, capTable};
 ghost use Rattle.interface.specs.Effects.{ancestors, below, stripped, cutCaps};
 ghost use Rattle.interface.specs.Census.{descendants, counted};
 ghost use Rattle.places.specs.Table.{Sized};
-ghost use Rattle.tree.specs.Walks.{Linked, firstAmong, cutAt, placesOnly};
+ghost use Rattle.tree.specs.Walks.{Linked, InSpace, firstAmong, cutAt, packed, marksOf, markAt, placesOnly};
 use descriptor::Cap;
 use descriptor::FoundPlace;
 use descriptor::Place;
@@ -43,31 +43,72 @@ pub fn is_below(table: &[u32], place: Place, first: u32, size: u32) -> bool
     ancestor(table, place, first, size) != 0
 }
 
-// Which places lose permissions, one mark for each: found on the table as it is, before any is stripped.
-fn marks(table: &[u32], first: u32, size: u32, self_too: bool) -> [bool; 1536]
-    requires { ⌜ Sized (now table) × Linked (capAt (now table)) × (first + size ≤ places) ⌝ }
-    ensures { λ r. ⌜ r ≡ listed places (cutAt (capAt (now (table .entry))) first size «self_too») ⌝ }
+// Whether a place loses permissions.
+fn is_cut(table: &[u32], place: u32, first: u32, size: u32, self_too: bool) -> bool
+    requires { ⌜ Sized (now table) × Linked (capAt (now table)) × (place < places) × (first + size ≤ places) ⌝ }
+    ensures { λ r. ⌜ r ≡ cutAt (capAt (now (table .entry))) first size «self_too» place ⌝ }
 {
-    let mut marked = [false; 1536];
+    let among = (first <= place) & (place < first + size);
+    let at = Place::nth(place);
+    let cap = places::load(table, at);
+    if cap.parent == 0 {
+        return self_too & among;
+    }
+    let below = is_below(table, at, first, size);
+    below | (self_too & among)
+}
+
+// Which of the 32 places from one on lose permissions, a bit for each: the lowest is that of the first. They are walked from the last on.
+fn mark_word(table: &[u32], from: u32, first: u32, size: u32, self_too: bool) -> u32
+    requires { ⌜ Sized (now table) × Linked (capAt (now table)) × (from % 32 ≡ 0) × (from + 32 ≤ places) × InSpace first size ⌝ }
+    ensures { λ r. ⌜ r ≡ packed (cutAt (capAt (now (table .entry))) first size «self_too») from 32 ⌝ }
+{
+    if Place::nth(from).space() != Place::nth(first).space() {
+        return 0;
+    }
+    let mut word = 0u32;
+    let mut place = from + 32;
+    while from < place {
+        place -= 1;
+        word *= 2;
+        if is_cut(table, place, first, size, self_too) {
+            word += 1;
+        }
+    }
+    word
+}
+
+// Which places lose permissions, a bit for each in 48 words: found on the table as it is, before any is stripped.
+fn marks(table: &[u32], first: u32, size: u32, self_too: bool) -> [u32; 48]
+    requires { ⌜ Sized (now table) × Linked (capAt (now table)) × InSpace first size ⌝ }
+    ensures { λ r. ⌜ r ≡ marksOf (cutAt (capAt (now (table .entry))) first size «self_too») ⌝ }
+{
+    let mut marked = [0u32; 48];
     let mut walked = 0u32;
-    while walked < sizes::PLACES {
-        let among = (first <= walked) & (walked < first + size);
-        marked[walked as usize] = is_below(table, Place::nth(walked), first, size)
-            | (self_too & among);
+    while walked < 48 {
+        marked[walked as usize] = mark_word(table, walked * 32, first, size, self_too);
         walked += 1;
     }
     marked
 }
 
+// Whether a place is marked.
+fn is_marked(marked: &[u32; 48], place: u32) -> bool
+    requires { ⌜ place < places ⌝ }
+    ensures { λ r. ⌜ r ≡ markAt (now (marked .entry)) place ⌝ }
+{
+    permissions::has(place % 32, marked[(place / 32) as usize])
+}
+
 // Removes a mask's permissions from every strict descendant of the places from `first` on, and from those places too if asked. A place left with none becomes null.
 pub fn cut(table: &mut [u32], mask: u32, first: u32, size: u32, self_too: bool)
-    requires { ⌜ Sized (now table) × Linked (capAt (now table)) × (first + size ≤ places) ⌝ }
+    requires { ⌜ Sized (now table) × Linked (capAt (now table)) × InSpace first size ⌝ }
     ensures { λ r. ⌜ now (table .exit) ≡ capTable (cutCaps mask first size «self_too» (capAt (now (table .entry)))) ⌝ }
 {
     let marked = marks(table, first, size, self_too);
     let mut number = 0u32;
     while number < sizes::PLACES {
-        if marked[number as usize] {
+        if is_marked(&marked, number) {
             strip(table, Place::nth(number), mask);
         }
         number += 1;

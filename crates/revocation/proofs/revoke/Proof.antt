@@ -7,7 +7,7 @@ use Rattle.descriptor.specs.Descriptors.{Proper, reading}
 use Rattle.descriptor.proofs.DescriptorLaws.{reading-kept, good-proper}
 use Rattle.tree.proofs.LinkLaws.{sound-linked}
 use Rattle.capabilities.proofs.CallerLaws.{sized-places, called-sound}
-use Rattle.revocation.proofs.RevokeLaws.{Aimed, aims, range-ends, self-refused, malformed-refused, null-revokes, range-revokes}
+use Rattle.revocation.proofs.RevokeLaws.{Aimed, aims, range-in-space, self-refused, malformed-refused, null-revokes, range-revokes}
 use Rattle.revocation.proofs.revoke.Statement.{statement}
 use Rattle.revocation.proofs.revoke.Tie as tie
 
@@ -82,7 +82,7 @@ cut-requires c κs =
     let called = given .before .before .before .before .before .before .before .before .before .before .pre in (
       sized-places called,
       sound-linked _ (called-sound called),
-      range-ends (is-aimed c) (is-proper (given .before .before .before)) (given .domain .ensures .1),
+      range-in-space (is-aimed c) (is-proper (given .before .before .before)) (given .domain .ensures .1),
     )
 
 returns-2 : tie.Need-returns-2

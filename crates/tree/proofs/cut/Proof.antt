@@ -23,17 +23,14 @@ marks-requires c κs = search needs
 loop-holds : tie.Need-loop-holds Inv-loop μ-loop
 loop-holds c = (omega arith, cut-none _ _ _ _ _ (c .before .before .before .pre .0))
 
-cast-if1 : tie.Need-cast-if1 Inv-loop μ-loop
-cast-if1 c = search needs
-
-array-read-if1 : tie.Need-array-read-if1 Inv-loop μ-loop
-array-read-if1 c = search needs
+is-marked-requires : tie.Need-is-marked-requires Inv-loop μ-loop
+is-marked-requires c κs = search needs
 
 nth-requires : tie.Need-nth-requires Inv-loop μ-loop
 nth-requires c κs = search needs
 
 strip-requires : tie.Need-strip-requires Inv-loop μ-loop
-strip-requires c κs = (cut-sized _ _ _ _ _ _ (c .before .before .before .before .loop .inv .1), omega arith)
+strip-requires c κs = (cut-sized _ _ _ _ _ _ (c .before .before .before .before .before .before .loop .inv .1), omega arith)
 
 add-number : tie.Need-add-number Inv-loop μ-loop
 add-number c = search needs
@@ -43,11 +40,13 @@ loop-less c = search needs
 
 loop-again : tie.Need-loop-again Inv-loop μ-loop
 loop-again c =
-    let so-far = c .before .before .loop .inv .1 in
-    let are-marks = c .before .before .before .marks .ensures in
+    let looped = c .before .before .before .before in
+    let so-far = looped .loop .inv .1 in
+    let are-marks = looped .before .marks .ensures in
+    let told = c .before .is-marked .ensures in
     ⊎-elim
-    (λ w. (omega arith, w .6 ∙ cut-marked _ _ _ _ _ _ so-far (omega arith) are-marks _ (w .2 .ensures) (w .0 .taken) (w .3 .ensures)))
-    (λ w. (omega arith, w .1 ∙ cut-unmarked _ _ _ _ _ _ so-far (omega arith) are-marks (w .0 .left))) (c .if1 .came)
+    (λ w. (omega arith, w .6 ∙ cut-marked _ _ _ _ _ _ so-far (omega arith) are-marks told _ (w .2 .ensures) (w .0 .taken) (w .3 .ensures)))
+    (λ w. (omega arith, w .1 ∙ cut-unmarked _ _ _ _ _ _ so-far (omega arith) are-marks told (w .0 .left))) (c .if1 .came)
 
 same-length : tie.Need-same-length Inv-loop μ-loop
 same-length c = cut-sized _ _ _ _ _ _ (c .before .loop .inv .1) ∙ sym (c .before .before .before .before .before .pre .0)
@@ -63,8 +62,7 @@ cut-spec =
     μ-loop
     marks-requires
     loop-holds
-    cast-if1
-    array-read-if1
+    is-marked-requires
     nth-requires
     strip-requires
     add-number

@@ -1,36 +1,34 @@
--- The marks of the places below the one walked from are those of the definition.
-use Prim.Native.Nat.{_-_, _≤_}
-use mathlib.Core.Path.{refl}
+-- The words below the loop's number are those of the definition.
+use Prim.Native.Nat.{_-_, _*_, _≤_}
 use native.Mathlib.Omega.{arith}
 use borrow.Author.Needs.{needs}
-use Rattle.words.specs.Sizes.{places}
 use Rattle.interface.specs.Places.{capAt}
-use Rattle.tree.specs.Walks.{cutAt}
-use Rattle.tree.proofs.RevocationLaws.{Marked, marked-none, marked-more, marked-all, mark-told}
+use Rattle.tree.specs.Walks.{cutAt, packed}
+use Rattle.tree.proofs.MarkLaws.{Stored, stored-none, stored-more, stored-all}
 use Rattle.tree.proofs.marks.Statement.{statement}
 use Rattle.tree.proofs.marks.Tie as tie
 
 abbrev Inv-loop : tie.InvT-loop
 Inv-loop table first size self-too marked₀ walked₀ marked walked =
-    (walked ≤ places) × Marked (cutAt (capAt table) first size self-too) walked marked
+    (walked ≤ 48) × Stored (λ number. packed (cutAt (capAt table) first size self-too) (number * 32) 32) 48 walked marked
 
 abbrev μ-loop : tie.MeasureT-loop
-μ-loop table first size self-too marked₀ walked₀ marked walked = places - walked
+μ-loop table first size self-too marked₀ walked₀ marked walked = 48 - walked
 
 loop-holds : tie.Need-loop-holds Inv-loop μ-loop
-loop-holds c = (omega arith, marked-none _ _ refl)
+loop-holds c = (omega arith, stored-none _ _)
 
-add-among : tie.Need-add-among Inv-loop μ-loop
-add-among c = search needs
+mul-mark-word : tie.Need-mul-mark-word Inv-loop μ-loop
+mul-mark-word c = search needs
 
-nth-requires : tie.Need-nth-requires Inv-loop μ-loop
-nth-requires c κs = search needs
-
-is-below-requires : tie.Need-is-below-requires Inv-loop μ-loop
-is-below-requires c κs = search needs
+mark-word-requires : tie.Need-mark-word-requires Inv-loop μ-loop
+mark-word-requires c κs = search needs
 
 cast-marked : tie.Need-cast-marked Inv-loop μ-loop
 cast-marked c = search needs
+
+mul-marked : tie.Need-mul-marked Inv-loop μ-loop
+mul-marked c = search needs
 
 array-write-marked : tie.Need-array-write-marked Inv-loop μ-loop
 array-write-marked c = omega arith
@@ -42,13 +40,10 @@ loop-less : tie.Need-loop-less Inv-loop μ-loop
 loop-less c = search needs
 
 loop-again : tie.Need-loop-again Inv-loop μ-loop
-loop-again c =
-    let looped = c .before .before .before in
-    let told = mark-told _ _ _ _ (looped .before .before .args .self-too) (c .before .nth .ensures) (c .is-below .ensures) in
-    (omega arith, marked-more (looped .loop .inv .1) _ (omega arith) told)
+loop-again c = (omega arith, stored-more (c .before .before .loop .inv .1) _ (omega arith) (c .mark-word .ensures))
 
 returns : tie.Need-returns Inv-loop μ-loop
-returns c = marked-all (c .before .loop .inv .1) (omega arith)
+returns c = stored-all (c .before .loop .inv .1) (omega arith)
 
 pub marks-spec : {M : Type 1} → statement M
 marks-spec =
@@ -57,10 +52,10 @@ marks-spec =
     Inv-loop
     μ-loop
     loop-holds
-    add-among
-    nth-requires
-    is-below-requires
+    mul-mark-word
+    mark-word-requires
     cast-marked
+    mul-marked
     array-write-marked
     add-walked
     loop-less

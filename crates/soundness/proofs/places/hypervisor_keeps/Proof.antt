@@ -1,53 +1,56 @@
--- The loop's invariant: each place passed is as at boot. The measure is how many places of domain 0 are left.
-use Prim.Native.Nat.{_-_, _≤_}
-use mathlib.Core.Path.{_≡_}
-use mathlib.Core.Bool.{true}
+-- Each stretch is as the definition of boot's places has it, and the rest is null.
+use Prim.Native.Nat.{_+_}
+use native.Mathlib.Omega.{arith}
+use Rattle.words.specs.Sizes.{io, object, start, stride}
+use Rattle.interface.specs.Boot.{cpus, rootPd}
+use Rattle.soundness.proofs.LoopLaws.{all-below-none, all-below-within}
+use Rattle.soundness.proofs.KeepingLaws.{answered-yes}
+use Rattle.soundness.proofs.PlaceTests.{memory-stretch, io-stretch, idle-stretch, interrupt-stretch}
 use borrow.Author.Needs.{needs}
-use Rattle.words.specs.Sizes.{stride}
-use Rattle.interface.specs.Damage.{fixed-place}
-use Rattle.interface.specs.Basics.{allBelow}
-use Rattle.soundness.specs.Keeping.{placesIn}
-use Rattle.soundness.proofs.LoopLaws.{all-below-none, all-below-more, all-below-done, all-below-broken}
 use Rattle.soundness.proofs.places.hypervisor_keeps.Statement.{statement}
 use Rattle.soundness.proofs.places.hypervisor_keeps.Tie as tie
 
-abbrev Inv-loop : tie.InvT-loop
-Inv-loop table at₀ at = (at ≤ stride) × (allBelow at (fixed-place (placesIn table)) ≡ true)
+stretch-keeps-requires : tie.Need-stretch-keeps-requires
+stretch-keeps-requires c κs = (c .before .pre, omega arith, omega arith, omega arith, memory-stretch, all-below-none _)
 
-abbrev μ-loop : tie.MeasureT-loop
-μ-loop table at₀ at = stride - at
+returns : tie.Need-returns
+returns c = all-below-within _ (start io) stride _ (omega arith) (c .before .stretch-keeps .ensures) (c .if1 .taken)
 
-loop-holds : tie.Need-loop-holds Inv-loop μ-loop
-loop-holds c = search (all-below-none, needs)
+stretch-keeps-requires-2 : tie.Need-stretch-keeps-requires-2
+stretch-keeps-requires-2 c κs = (c .before .before .before .pre, omega arith, omega arith, omega arith, io-stretch, answered-yes _ _ (c .before .stretch-keeps .ensures) (c .if1 .left))
 
-fixed-keeps-requires : tie.Need-fixed-keeps-requires Inv-loop μ-loop
-fixed-keeps-requires c κs = search needs
+returns-2 : tie.Need-returns-2
+returns-2 c = all-below-within _ (start object) stride _ (omega arith) (c .before .stretch-keeps2 .ensures) (c .if2 .taken)
 
-returns : tie.Need-returns Inv-loop μ-loop
-returns c = search (all-below-broken, needs)
+stretch-keeps-requires-3 : tie.Need-stretch-keeps-requires-3
+stretch-keeps-requires-3 c κs = (c .before .before .before .before .before .pre, omega arith, omega arith, omega arith, idle-stretch, answered-yes _ _ (c .before .stretch-keeps2 .ensures) (c .if2 .left))
 
-add-at : tie.Need-add-at Inv-loop μ-loop
-add-at c = search needs
+returns-3 : tie.Need-returns-3
+returns-3 c = all-below-within _ (start object + cpus) stride _ (omega arith) (c .before .stretch-keeps3 .ensures) (c .if3 .taken)
 
-loop-less : tie.Need-loop-less Inv-loop μ-loop
-loop-less c = search needs
+stretch-keeps-requires-4 : tie.Need-stretch-keeps-requires-4
+stretch-keeps-requires-4 c κs = (c .before .before .before .before .before .before .before .pre, omega arith, omega arith, omega arith, interrupt-stretch, answered-yes _ _ (c .before .stretch-keeps3 .ensures) (c .if3 .left))
 
-loop-again : tie.Need-loop-again Inv-loop μ-loop
-loop-again c = search (all-below-more, needs)
+returns-4 : tie.Need-returns-4
+returns-4 c = all-below-within _ (start object + rootPd) stride _ (omega arith) (c .before .stretch-keeps4 .ensures) (c .if4 .taken)
 
-returns-2 : tie.Need-returns-2 Inv-loop μ-loop
-returns-2 c = search (all-below-done, needs)
+rest-keeps-requires : tie.Need-rest-keeps-requires
+rest-keeps-requires c κs = (c .before .before .before .before .before .before .before .before .before .pre, answered-yes _ _ (c .before .stretch-keeps4 .ensures) (c .if4 .left))
+
+returns-5 : tie.Need-returns-5
+returns-5 c = search needs
 
 pub hypervisor-keeps-spec : {M : Type 1} → statement M
 hypervisor-keeps-spec =
     tie.close
     (tie.spec
-    Inv-loop
-    μ-loop
-    loop-holds
-    fixed-keeps-requires
+    stretch-keeps-requires
     returns
-    add-at
-    loop-less
-    loop-again
-    returns-2)
+    stretch-keeps-requires-2
+    returns-2
+    stretch-keeps-requires-3
+    returns-3
+    stretch-keeps-requires-4
+    returns-4
+    rest-keeps-requires
+    returns-5)

@@ -1,5 +1,7 @@
 -- The tests are the definition's, and domain 0 is the first stride of places.
+use native.Mathlib.Omega.{arith}
 use borrow.Author.Needs.{needs}
+use Rattle.words.proofs.PlaceLaws.{space-small}
 use Rattle.soundness.proofs.PlaceTests.{lineage-none, lineage-parent}
 use Rattle.soundness.proofs.places.lineage_keeps.Statement.{statement}
 use Rattle.soundness.proofs.places.lineage_keeps.Tie as tie
@@ -11,7 +13,8 @@ sub-parent-fits : tie.Need-sub-parent-fits
 sub-parent-fits c = search needs
 
 parent-fits-requires : tie.Need-parent-fits-requires
-parent-fits-requires c κs = search needs
+parent-fits-requires c κs =
+    let start = c .before .before .before .before in (start .pre .0, start .pre .3, omega (arith, start .pre .1, space-small (start .args .place)))
 
 returns-2 : tie.Need-returns-2
 returns-2 c = search (lineage-parent, needs)

@@ -10,8 +10,8 @@ returns c = search (parent-past, needs)
 cap-at-requires : tie.Need-cap-at-requires
 cap-at-requires c κs = search needs
 
-space-of-requires : tie.Need-space-of-requires
-space-of-requires c κs = search needs
+is-of-space-requires : tie.Need-is-of-space-requires
+is-of-space-requires c κs = search needs
 
 is-within-requires : tie.Need-is-within-requires
 is-within-requires c κs = search needs
@@ -34,7 +34,7 @@ parent-fits-spec =
     (tie.spec
     returns
     cap-at-requires
-    space-of-requires
+    is-of-space-requires
     is-within-requires
     cast-result
     add-result

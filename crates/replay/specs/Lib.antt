@@ -1,0 +1,3 @@
+-- What the contracts of the replay program cite.
+pub mod Buffers
+pub mod Records

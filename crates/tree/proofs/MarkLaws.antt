@@ -1,0 +1,126 @@
+-- Laws of the marks: the answers of a test as the bits of words, and each of them read back.
+use Prim.Native.Nat.{ℕ, zero, suc, _+_, _-_, _*_, _/_, _%_, _^_, _≤_, _<_}
+use mathlib.Core.Path.{_≡_, refl, sym, ap, _∙_}
+use mathlib.Core.Logic.{_≢_}
+use mathlib.Core.Bool.{Bool, true, false, _&&_, _||_}
+use mathlib.Core.List.{List}
+use native.Mathlib.Nat.{add-sub-cancel-left, add-zero, pow-zero, div-one, sub-self}
+use native.Mathlib.Numerals.{one-add}
+use native.Mathlib.Omega.{arith}
+use lib.Dec.{eqb}
+use lib.ListN.{length, set, length-set}
+use lib.Pow.{pow-mono, shr-shr}
+use lib.Seq.{getD-set-same, getD-set-other, ext-getD}
+use Rattle.words.specs.Sizes.{places}
+use Rattle.words.specs.Permissions.{permits}
+use Rattle.interface.specs.Basics.{if_then_else_, word, listed}
+use Rattle.interface.specs.Places.{Cap}
+use Rattle.interface.specs.Effects.{among, below}
+use Rattle.interface.proofs.BoolLaws.{cases}
+use Rattle.interface.proofs.BelowLaws.{below-suc}
+use Rattle.interface.proofs.TableLaws.{length-listed, word-listed}
+use Rattle.tree.specs.Walks.{cutAt, packed, marksOf, markAt}
+
+module _ (test : ℕ → Bool) where
+  -- the bit that tells the answer for a place
+  abbrev bitOf : ℕ → ℕ
+  bitOf place = if test place then 1 else 0
+
+  bit-small : (place : ℕ) → bitOf place < 2
+  bit-small place = cases (test place) (λ (t : test place ≡ true). rw t (omega arith)) (λ (f : test place ≡ false). rw f (omega arith))
+
+  packed-none : (place : ℕ) → packed test place 0 ≡ 0
+  unfolding packed
+  packed-none place = refl
+
+  packed-more : (place n : ℕ) → packed test place (suc n) ≡ packed test (place + 1) n * 2 + bitOf place
+  unfolding packed
+  packed-more place n = refl
+
+  -- as many bits as places
+  packed-small : (n place : ℕ) → packed test place n < 2 ^ n
+  packed-small zero place = rw (packed-none place) (omega arith)
+  packed-small (suc n) place = omega (arith, packed-more place n, packed-small n (place + 1), bit-small place)
+
+  -- each bit is the answer for its place
+  bit-at : (n place i : ℕ) → i < n → packed test place n / 2 ^ i % 2 ≡ bitOf (place + i)
+  bit-at zero place i l = absurd (omega arith)
+  bit-at (suc n) place zero l = rw (pow-zero 2, div-one (packed test place (suc n)), add-zero place) (omega (arith, packed-more place n, bit-small place))
+  bit-at (suc n) place (suc i) l =
+      let half : packed test place (suc n) / 2 ^ 1 ≡ packed test (place + 1) n = omega (arith, packed-more place n, bit-small place) in
+      let next : place + suc i ≡ place + 1 + i = omega arith in
+      rw (next, ← one-add i, ← shr-shr (packed test place (suc n)) 1 i, half) (bit-at n (place + 1) i (omega arith))
+
+  bit-test : (place : ℕ) → eqb (bitOf place) 1 ≡ test place
+  bit-test place = cases (test place) (λ (t : test place ≡ true). rw t) (λ (f : test place ≡ false). rw f)
+
+  packed-at : (n place i : ℕ) → i < n → permits i (packed test place n) ≡ test (place + i)
+  packed-at n place i l = rw (add-sub-cancel-left i 1, bit-at n place i l) (bit-test (place + i))
+
+  -- the answer for each place is read back from the words
+  pub mark-at : (place : ℕ) → place < places → markAt (marksOf test) place ≡ test place
+  mark-at place l =
+      let here : place / 32 * 32 + place % 32 ≡ place = omega arith in
+      rw (word-listed (λ (number : ℕ). packed test (number * 32) 32) (places / 32) (place / 32) (omega arith))
+      (packed-at 32 (place / 32 * 32) (place % 32) (omega arith) ∙ ap test here)
+
+  -- behind the last of 32 places no bits are there
+  pub packed-start : (from : ℕ) → 0 ≡ packed test (from + 32) (from + 32 - (from + 32))
+  packed-start from = rw (sub-self (from + 32)) (sym (packed-none (from + 32)))
+
+  -- a place further down, the bit of that place comes in below the others, and there is room for it
+  module _ (from place : ℕ) {value : ℕ} (so-far : value ≡ packed test place (from + 32 - place)) (more : from < place) (inside : place ≤ from + 32) where
+    pub packed-room : value * 2 + 1 < 2 ^ 32
+    packed-room =
+        let few : from + 32 - place ≤ 31 = omega arith in
+        omega (arith, so-far, packed-small (from + 32 - place) place, pow-mono few)
+
+    packed-next : value * 2 + bitOf (place - 1) ≡ packed test (place - 1) (from + 32 - (place - 1))
+    packed-next =
+        let one-more : from + 32 - (place - 1) ≡ suc (from + 32 - place) = omega arith in
+        let back : place - 1 + 1 ≡ place = omega arith in
+        rw (one-more, packed-more (place - 1) (from + 32 - place), back, so-far)
+
+    module _ {answer : Bool} (told : answer ≡ test (place - 1)) where
+      pub packed-marked : answer ≡ true → value * 2 + 1 ≡ packed test (place - 1) (from + 32 - (place - 1))
+      packed-marked t = rw (sym told ∙ t) at packed-next
+
+      pub packed-unmarked : answer ≡ false → value * 2 ≡ packed test (place - 1) (from + 32 - (place - 1))
+      packed-unmarked f = let none : bitOf (place - 1) ≡ 0 = rw (sym told ∙ f) in omega (arith, packed-next)
+
+  -- at the first place all bits are there
+  pub packed-all : (from place : ℕ) {value : ℕ} → value ≡ packed test place (from + 32 - place) → place ≡ from → value ≡ packed test from 32
+  packed-all from place so-far all = let whole : from + 32 - place ≡ 32 = omega arith in so-far ∙ rw (whole, all)
+
+-- whether a place loses permissions, by the answer of the walk from there
+pub cut-told : (caps : ℕ → Cap) (first size place : ℕ) (self : Bool) {at : ℕ} {answer : Bool} → at ≡ place → answer ≡ below caps first size at →
+    (answer || (self && among first size place)) ≡ cutAt caps first size self place
+cut-told caps first size place self is-at told = rw (told, is-at)
+
+-- a list whose words below a number are those of a function
+pub record Stored (f : ℕ → ℕ) (size number : ℕ) (list : List ℕ) : Type 0 where
+  pub as-long : length list ≡ size
+  pub so-far : (n : ℕ) → n < number → word list n ≡ f n
+
+pub stored-none : (f : ℕ → ℕ) (list : List ℕ) → Stored f (length list) 0 list
+stored-none f list = record { as-long = refl; so-far = λ n l. absurd (omega arith) }
+
+module _ {f : ℕ → ℕ} {size number : ℕ} {list : List ℕ} (stored : Stored f size number list) where
+  pub stored-more : (value : ℕ) → number < size → value ≡ f number → Stored f size (number + 1) (set list number value)
+  stored-more value l e =
+      let long : number < length list = omega (arith, stored .as-long) in
+      record {
+        as-long = length-set list number value ∙ stored .as-long;
+        so-far =
+            λ n b.
+            below-suc n number (omega arith)
+            (λ (c : n < number). let other : n ≢ number = omega arith in getD-set-other list number n value 0 other ∙ stored .so-far n c)
+            (λ (same : n ≡ number). rw same (getD-set-same list number value 0 long ∙ e));
+      }
+
+  pub stored-all : number ≡ size → list ≡ listed size f
+  stored-all all =
+      ext-getD 0 list (listed size f) (stored .as-long ∙ sym (length-listed f size))
+      (λ n l.
+      let small : n < size = rw (stored .as-long) at l in
+      stored .so-far n (rw all small) ∙ sym (word-listed f size n small))
