@@ -32,7 +32,7 @@ pub const LOOKUP: u32 = 8;
 pub const SM_CTRL: u32 = 11;
 
 // A caller that is an EC, on sound tables, or the refusal.
-pub enum Admitted {
+enum Admitted {
     Ec(ObjectNumber),
     Refused(Reply),
 }

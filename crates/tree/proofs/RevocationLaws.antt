@@ -1,24 +1,26 @@
 -- Laws of revocation on the place table: what stripping one place leaves, and what stripping the marked places in turn leaves.
-use Prim.Native.Nat.{ℕ, _+_, _≤_, _<_}
+use Prim.Native.Nat.{ℕ, _+_, _/_, _%_, _≤_, _<_}
 use mathlib.Core.Path.{_≡_, refl, sym, ap, _∙_}
-use mathlib.Core.Bool.{Bool, true, false}
+use mathlib.Core.Bool.{Bool, true, false, _&&_}
 use mathlib.Core.List.{List}
+use native.Mathlib.Nat.{zero-div, zero-mod}
 use native.Mathlib.Omega.{arith}
 use lib.Dec.{eqb, ltb}
 use lib.ListN.{length}
 use borrow.Author.Tests.{eqb-true, eqb-false, eq-eqb, ne-eqb, lt-ltb, le-ltb, ltb-true, ltb-false}
+use Rattle.words.specs.Fields.{bits}
 use Rattle.words.specs.Sizes.{places}
-use Rattle.words.specs.Permissions.{revoked}
-use Rattle.interface.specs.Basics.{if_then_else_, put}
+use Rattle.words.specs.Permissions.{permits, revoked}
+use Rattle.interface.specs.Basics.{if_then_else_, word, put}
 use Rattle.interface.specs.Places.{Cap, nothing, capAt, capTable}
 use Rattle.interface.specs.Effects.{stripped, cutCaps}
-use Rattle.interface.proofs.BoolLaws.{cases}
+use Rattle.interface.proofs.BoolLaws.{cases, and-left, and-right}
 use Rattle.interface.proofs.PutLaws.{put-same, put-other}
 use Rattle.interface.proofs.CutLaws.{stripped-none, stripped-some}
 use Rattle.interface.proofs.CutSound.{cut-kept, cut-stripped}
 use Rattle.places.specs.Table.{Sized}
 use Rattle.places.proofs.CapTableLaws.{length-cap-table, cap-table-same, cap-at-table-below, cap-table-back}
-use Rattle.tree.specs.Walks.{cutAt, marksOf, markAt, placesOnly}
+use Rattle.tree.specs.Walks.{cutAt, marksOf, markAt, placesOnly, Stepped, skips, strips, passes}
 use Rattle.tree.proofs.MarkLaws.{mark-at}
 
 -- what is stored at a place is what stripping leaves of it
@@ -37,6 +39,15 @@ module _ (table : List ℕ) (place mask : ℕ) {left : ℕ} {cap : Cap} (is-cap 
         ← is-left,
       )
       e
+
+-- stripping the place of a number
+pub stripped-at : (before : List ℕ) {after : List ℕ} (mask number : ℕ) {at : ℕ} → at ≡ number → after ≡ capTable (put (capAt before) at (stripped mask (capAt before at))) →
+    after ≡ capTable (put (capAt before) number (stripped mask (capAt before number)))
+stripped-at before mask number is-at e = rw is-at at e
+
+-- no bit of 0 is set
+no-bit : (i : ℕ) → permits i 0 ≡ false
+no-bit i = let none : bits i i 0 ≡ 0 = simp (zero-div, zero-mod) in rw none
 
 -- stripping the marked places in turn
 module _ (table : List ℕ) (mask first size : ℕ) (self : Bool) where
@@ -107,3 +118,44 @@ module _ (table : List ℕ) (mask first size : ℕ) (self : Bool) where
         so-far ∙
         one-further number (cutBelow number)
         (kept-from number number (omega arith) ∙ sym (cut-kept (placesOnly table) mask first size self number (sym is-cut ∙ f))) (λ p small n. refl)
+
+  -- a word without a mark: none of its places is cut
+  module _ {now marks : List ℕ} (number : ℕ) (so-far : now ≡ capTable (cutBelow number)) (l : number < places)
+      (are-marks : marks ≡ marksOf (cutAt (capAt table) first size self)) where
+    word-unmarked : number % 32 ≡ 0 → word marks (number / 32) ≡ 0 → (p : ℕ) → number ≤ p → p < number + 32 → p < places →
+        cutAt (capAt table) first size self p ≡ false
+    word-unmarked whole none p from before small =
+        let same : p / 32 ≡ number / 32 = omega arith in
+        let told : markAt marks p ≡ cutAt (capAt table) first size self p = rw are-marks (mark-at (cutAt (capAt table) first size self) p small) in
+        sym told ∙ rw (same, none) (no-bit (p % 32))
+
+    cut-skipped : number % 32 ≡ 0 → word marks (number / 32) ≡ 0 → now ≡ capTable (cutBelow (number + 32))
+    cut-skipped whole none =
+        so-far ∙
+        cap-table-same (cutBelow number) (cutBelow (number + 32))
+        (λ p small.
+        cases (ltb p number)
+        (λ (t : ltb p number ≡ true).
+        let b = ltb-true p number t in
+        cut-below number p b ∙ sym (cut-below (number + 32) p (omega arith)))
+        (λ (f : ltb p number ≡ false).
+        let from = ltb-false p number f in
+        cases (ltb p (number + 32))
+        (λ (t : ltb p (number + 32) ≡ true).
+        let b = ltb-true p (number + 32) t in
+        kept-from number p from ∙
+        sym (cut-below (number + 32) p b ∙ cut-kept (placesOnly table) mask first size self p (word-unmarked whole none p from b small)))
+        (λ (g : ltb p (number + 32) ≡ false).
+        kept-from number p from ∙ sym (kept-from (number + 32) p (ltb-false p (number + 32) g)))))
+
+    -- what a step leads to
+    pub cut-step : {after : List ℕ} {next : ℕ} → Stepped now marks mask number after next →
+        (number < next) × (next ≤ places) × (after ≡ capTable (cutBelow next))
+    cut-step (skips is-next tested same) =
+        let whole = eqb-true (number % 32) 0 (and-left (eqb (number % 32) 0) (eqb (word marks (number / 32)) 0) tested) in
+        let none = eqb-true (word marks (number / 32)) 0 (and-right (eqb (number % 32) 0) (eqb (word marks (number / 32)) 0) tested) in
+        (omega arith, omega arith, same ∙ cut-skipped whole none ∙ ap (λ (n : ℕ). capTable (cutBelow n)) (sym is-next))
+    cut-step (strips is-next marked e) =
+        (omega arith, omega arith, cut-marked number so-far l are-marks (sym marked) number refl refl e ∙ ap (λ (n : ℕ). capTable (cutBelow n)) (sym is-next))
+    cut-step (passes is-next unmarked same) =
+        (omega arith, omega arith, same ∙ cut-unmarked number so-far l are-marks (sym unmarked) refl ∙ ap (λ (n : ℕ). capTable (cutBelow n)) (sym is-next))

@@ -1,13 +1,14 @@
 -- Walks along the parent links of a place table.
 use Prim.Native.Nat.{ℕ, _≤_, zero, suc, _+_, _*_, _/_, _%_, _<_}
 use mathlib.Core.Path.{_≡_}
-use mathlib.Core.Bool.{Bool, _&&_, _||_}
+use mathlib.Core.Bool.{Bool, true, false, _&&_, _||_}
+use lib.Dec.{eqb}
 use mathlib.Core.List.{List, [], _∷_}
 use Rattle.words.specs.Sizes.{spaceOf, places}
 use Rattle.words.specs.Permissions.{permits}
-use Rattle.interface.specs.Basics.{if_then_else_, word, listed}
-use Rattle.interface.specs.Places.{Cap, State, capAt}
-use Rattle.interface.specs.Effects.{among, below}
+use Rattle.interface.specs.Basics.{if_then_else_, word, put, listed}
+use Rattle.interface.specs.Places.{Cap, State, capAt, capTable}
+use Rattle.interface.specs.Effects.{among, below, stripped}
 
 -- links that a walk can follow: a parent is a place of the same space whose depth is one less, and a place without a parent has depth 0
 pub record Linked (caps : ℕ → Cap) : Type 0 where
@@ -47,3 +48,10 @@ markAt marks place = permits (place % 32) (word marks (place / 32))
 -- a state that shows a place table; what is read of it here does not look at the objects
 abbrev pub placesOnly : List ℕ → State
 placesOnly table = record { caps = capAt table; objects = λ number index. 0 }
+
+-- a step of a revocation from a place: it passes all places of a word without a mark, strips the place, or passes it
+pub data Stepped (before marks : List ℕ) (mask number : ℕ) (after : List ℕ) (next : ℕ) : Type 0 where
+  skips : next ≡ number + 32 → (eqb (number % 32) 0 && eqb (word marks (number / 32)) 0) ≡ true → after ≡ before → Stepped before marks mask number after next
+  strips : next ≡ number + 1 → markAt marks number ≡ true → after ≡ capTable (put (capAt before) number (stripped mask (capAt before number))) →
+      Stepped before marks mask number after next
+  passes : next ≡ number + 1 → markAt marks number ≡ false → after ≡ before → Stepped before marks mask number after next

@@ -9,7 +9,7 @@ ghost use Rattle.interface.specs.Places.{capAt, capTable};
 ghost use Rattle.interface.specs.Effects.{ancestors, below, stripped, cutCaps};
 ghost use Rattle.interface.specs.Census.{descendants, counted};
 ghost use Rattle.places.specs.Table.{Sized};
-ghost use Rattle.tree.specs.Walks.{Linked, InSpace, firstAmong, cutAt, packed, marksOf, markAt, placesOnly};
+ghost use Rattle.tree.specs.Walks.{Linked, InSpace, Stepped, firstAmong, cutAt, packed, marksOf, markAt, placesOnly};
 use descriptor::Cap;
 use descriptor::FoundPlace;
 use descriptor::Place;
@@ -108,11 +108,23 @@ pub fn cut(table: &mut [u32], mask: u32, first: u32, size: u32, self_too: bool)
     let marked = marks(table, first, size, self_too);
     let mut number = 0u32;
     while number < sizes::PLACES {
-        if is_marked(&marked, number) {
-            strip(table, Place::nth(number), mask);
-        }
-        number += 1;
+        number = strip_next(table, &marked, mask, number);
     }
+}
+
+// Removes a mask's permissions from a place if it is marked. Answers the next place: past all those of a word without a mark.
+fn strip_next(table: &mut [u32], marked: &[u32; 48], mask: u32, number: u32) -> u32
+    requires { ⌜ Sized (now table) × (number < places) ⌝ }
+    ensures { λ r. ⌜ Stepped (now (table .entry)) (now (marked .entry)) mask number (now (table .exit)) r ⌝ }
+{
+    if (number % 32 == 0) & (marked[(number / 32) as usize] == 0) {
+        return number + 32;
+    }
+    if is_marked(marked, number) {
+        strip(table, Place::nth(number), mask);
+        return number + 1;
+    }
+    number + 1
 }
 
 // Removes a mask's permissions from one place.

@@ -1,12 +1,11 @@
 -- The places below the loop's number are as revocation leaves them, and the others as they were; the marks were found before.
 use Prim.Native.Nat.{_-_, _≤_}
 use mathlib.Core.Path.{_≡_, sym, _∙_}
-use mathlib.Core.Logic.{⊎-elim}
 use native.Mathlib.Omega.{arith}
-use borrow.Author.Needs.{needs}
 use Rattle.words.specs.Sizes.{places}
 use Rattle.interface.specs.Places.{capTable}
-use Rattle.tree.proofs.RevocationLaws.{cutBelow, cut-none, cut-sized, cut-all, cut-marked, cut-unmarked}
+use Rattle.tree.proofs.RevocationLaws.{cutBelow, cut-none, cut-sized, cut-all, cut-step}
+use borrow.Author.Needs.{needs}
 use Rattle.tree.proofs.cut.Statement.{statement}
 use Rattle.tree.proofs.cut.Tie as tie
 
@@ -23,30 +22,14 @@ marks-requires c κs = search needs
 loop-holds : tie.Need-loop-holds Inv-loop μ-loop
 loop-holds c = (omega arith, cut-none _ _ _ _ _ (c .before .before .before .pre .0))
 
-is-marked-requires : tie.Need-is-marked-requires Inv-loop μ-loop
-is-marked-requires c κs = search needs
-
-nth-requires : tie.Need-nth-requires Inv-loop μ-loop
-nth-requires c κs = search needs
-
-strip-requires : tie.Need-strip-requires Inv-loop μ-loop
-strip-requires c κs = (cut-sized _ _ _ _ _ _ (c .before .before .before .before .before .before .loop .inv .1), omega arith)
-
-add-number : tie.Need-add-number Inv-loop μ-loop
-add-number c = search needs
+strip-next-requires : tie.Need-strip-next-requires Inv-loop μ-loop
+strip-next-requires c κs = (cut-sized _ _ _ _ _ _ (c .before .before .before .loop .inv .1), omega arith)
 
 loop-less : tie.Need-loop-less Inv-loop μ-loop
-loop-less c = search needs
+loop-less c = let step = cut-step _ _ _ _ _ _ (c .before .before .before .before .before .before .loop .inv .1) (omega arith) (c .before .before .before .before .before .before .before .marks .ensures) (c .before .before .strip-next .ensures) in omega (arith, step .0, step .1)
 
 loop-again : tie.Need-loop-again Inv-loop μ-loop
-loop-again c =
-    let looped = c .before .before .before .before in
-    let so-far = looped .loop .inv .1 in
-    let are-marks = looped .before .marks .ensures in
-    let told = c .before .is-marked .ensures in
-    ⊎-elim
-    (λ w. (omega arith, w .6 ∙ cut-marked _ _ _ _ _ _ so-far (omega arith) are-marks told _ (w .2 .ensures) (w .0 .taken) (w .3 .ensures)))
-    (λ w. (omega arith, w .1 ∙ cut-unmarked _ _ _ _ _ _ so-far (omega arith) are-marks told (w .0 .left))) (c .if1 .came)
+loop-again c = let step = cut-step _ _ _ _ _ _ (c .before .before .before .before .before .before .loop .inv .1) (omega arith) (c .before .before .before .before .before .before .before .marks .ensures) (c .before .before .strip-next .ensures) in (step .1, step .2)
 
 same-length : tie.Need-same-length Inv-loop μ-loop
 same-length c = cut-sized _ _ _ _ _ _ (c .before .loop .inv .1) ∙ sym (c .before .before .before .before .before .pre .0)
@@ -62,10 +45,7 @@ cut-spec =
     μ-loop
     marks-requires
     loop-holds
-    is-marked-requires
-    nth-requires
-    strip-requires
-    add-number
+    strip-next-requires
     loop-less
     loop-again
     same-length
