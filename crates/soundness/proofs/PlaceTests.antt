@@ -1,5 +1,5 @@
 -- The rules of places as the code tests them: what each definition gives on each way out of the function that tests it.
-use Prim.Native.Nat.{ℕ, zero, suc, _+_, _-_, _*_, _/_, _%_, _^_, _≤_, _<_}
+use Prim.Native.Nat.{ℕ, zero, suc, _+_, _-_, _*_, _/_, _%_, _≤_, _<_}
 use mathlib.Core.Path.{_≡_, refl, sym, ap, _∙_}
 use mathlib.Core.Bool.{Bool, true, false, not, _&&_, _||_, and-false}
 use mathlib.Core.List.{List}
@@ -13,8 +13,6 @@ use Rattle.words.proofs.PlaceLaws.{domain-back, space-back, selector-back, made
 use Rattle.interface.specs.Places.{Cap, State, Tables, live, nothing, parentless, free, placeTableWords, objectAt, shown, kindOf, greatestOf, greatest}
 use Rattle.interface.specs.Boot.{hypervisor, cpus, rootPd, bootRecord, hypervisorCap, bootCap}
 use Rattle.interface.specs.Damage.{between1, sameCap, fixed-place, hasPd, null-place, isResource, live-place, shallow}
-use Rattle.interface.specs.Basics.{if_then_else_, allBelow}
-use Rattle.interface.proofs.BelowLaws.{all-below-at}
 use Rattle.interface.proofs.BoolLaws.{cases, and-right, both, same-test, or-none-left, or-none-right}
 use Rattle.interface.proofs.PlaceFacts.{same-cap, some-live, more-live}
 use Rattle.soundness.specs.Keeping.{parentFits, lineageKeeps, placeKeeps, Numbered, Kept, Around}
@@ -55,30 +53,16 @@ pub space-so : (place : ℕ) → place / selectors object % spaces ≡ spaceOf p
 space-so place =
     rw (made-so place) at (space-at (domainOf place) (spaceOf place) (selectorOf place) (space-small place) (selector-small place))
 
--- of a number with every third bit set, the bit that a block of places and a space choose tells whether the block is of that space
-abbrev sameAnswer : Bool → Bool → Bool
-sameAnswer a b = if a then b else not b
-
-same-answer : (a b : Bool) → sameAnswer a b ≡ true → a ≡ b
-same-answer true true h = refl
-same-answer true false h = sym h
-same-answer false true h = h
-same-answer false false h = refl
-
-every-third : allBelow (domains * spaces) (λ k. allBelow spaces (λ s. sameAnswer (eqb (153391689 / 2 ^ (k + spaces - s) % 2) 1) (eqb (k % spaces) s))) ≡ true
-unfolding allBelow
-every-third = refl
-
-pub turn-tells : (place space : ℕ) → place < places → space < spaces →
-    eqb (153391689 / 2 ^ (place / selectors object + spaces - space) % 2) 1 ≡ eqb (spaceOf place) space
-turn-tells place space l h =
+-- spaces take turns: a block of places is of a space where it is the space's number past a multiple of theirs
+pub turn-tells : (place space : ℕ) → space < spaces → eqb ((place / selectors object + spaces - space) % spaces) 0 ≡ eqb (spaceOf place) space
+turn-tells place space h =
     let k = place / selectors object in
-    let turn : eqb (153391689 / 2 ^ (k + spaces - space) % 2) 1 ≡ eqb (k % spaces) space =
-    same-answer (eqb (153391689 / 2 ^ (k + spaces - space) % 2) 1) (eqb (k % spaces) space)
-    (all-below-at spaces (λ s. sameAnswer (eqb (153391689 / 2 ^ (k + spaces - s) % 2) 1) (eqb (k % spaces) s))
-    (all-below-at (domains * spaces)
-    (λ j. allBelow spaces (λ s. sameAnswer (eqb (153391689 / 2 ^ (j + spaces - s) % 2) 1) (eqb (j % spaces) s))) every-third k (omega arith)) space h) in
-    turn ∙ ap (λ (n : ℕ). eqb n space) (space-so place)
+    same-test (eqb ((k + spaces - space) % spaces) 0) (eqb (k % spaces) space)
+    (λ (t : eqb ((k + spaces - space) % spaces) 0 ≡ true).
+    let none = eqb-true ((k + spaces - space) % spaces) 0 t in eq-eqb (k % spaces) space (omega arith))
+    (λ (t : eqb (k % spaces) space ≡ true).
+    let is-space = eqb-true (k % spaces) space t in eq-eqb ((k + spaces - space) % spaces) 0 (omega arith)) ∙
+    ap (λ (n : ℕ). eqb n space) (space-so place)
 
 -- domain 0 at boot
 boot-there : (space selector : ℕ) → space < spaces → selector < selectors space → bootCap (placeOf hypervisor space selector) ≡ hypervisorCap space selector

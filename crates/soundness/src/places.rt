@@ -20,9 +20,6 @@ const SPACES: u32 = 3;
 
 const ALL_SPACES: u32 = 24;
 
-// Bits 0, 3, 6 and so on up to 27.
-const EVERY_THIRD_BIT: u32 = 153391689;
-
 // Where domain 0's capabilities for the idle SCs end, and those for the interrupts.
 const IDLE_END: u32 = 132;
 
@@ -56,12 +53,12 @@ pub fn space_of(place: u32) -> u32
     place / sizes::SELECTORS % SPACES
 }
 
-// Whether a place is of a space. Spaces take turns, so of a number with every third bit set the bit that the place's block and the space choose tells.
+// Whether a place is of a space: spaces take turns, so that the block of a place is the space's number past a multiple of theirs.
 fn is_of_space(place: u32, space: u32) -> bool
     requires { ⌜ (place < places) × (space < spaces) ⌝ }
     ensures { λ r. ⌜ r ≡ eqb (spaceOf place) space ⌝ }
 {
-    (EVERY_THIRD_BIT >> (place / sizes::SELECTORS + SPACES - space)) % 2 == 1
+    (place / sizes::SELECTORS + SPACES - space) % SPACES == 0
 }
 
 // Whether two places show the same.

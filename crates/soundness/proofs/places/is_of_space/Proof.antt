@@ -1,6 +1,6 @@
--- The bit tells, by a table of all blocks and spaces.
-use Rattle.soundness.proofs.PlaceTests.{turn-tells}
+-- Spaces take turns.
 use borrow.Author.Needs.{needs}
+use Rattle.soundness.proofs.PlaceTests.{turn-tells}
 use Rattle.soundness.proofs.places.is_of_space.Statement.{statement}
 use Rattle.soundness.proofs.places.is_of_space.Tie as tie
 
@@ -10,11 +10,8 @@ add-result c = search needs
 sub-result : tie.Need-sub-result
 sub-result c = search needs
 
-shr-result : tie.Need-shr-result
-shr-result c = search needs
-
 returns : tie.Need-returns
-returns c = turn-tells _ _ (c .pre .0) (c .pre .1)
+returns c = turn-tells _ _ (c .pre .1)
 
 pub is-of-space-spec : {M : Type 1} → statement M
-is-of-space-spec = tie.close (tie.spec add-result sub-result shr-result returns)
+is-of-space-spec = tie.close (tie.spec add-result sub-result returns)
