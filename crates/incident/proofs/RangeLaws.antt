@@ -1,12 +1,12 @@
 -- The ranges that the story names lie in their spaces.
 use Prim.Native.Nat.{ℕ, _%_, _<_}
-use mathlib.Core.Path.{_≡_}
+use mathlib.Core.Path.{_≡_, sym, _∙_}
 use native.Mathlib.Omega.{arith}
 use lib.Pow.{pow-pos}
 use borrow.Author.Tests.{eq-eqb}
 use Rattle.words.specs.Sizes.{io, object, spaces, selectors}
 use Rattle.descriptor.specs.declared.Range.{Range}
-use Rattle.descriptor.specs.Descriptors.{Proper}
+use Rattle.descriptor.specs.Descriptors.{Proper, describe}
 
 -- one selector
 pub one-proper : (space selector : ℕ) → space < spaces → selector < selectors space → Proper (record { space = space; base = selector; order = 0; mask = 31 })
@@ -31,9 +31,18 @@ shutter-proper first is-aligned is-selector =
     }
 
 -- a base that a selector is made of stays as it is
+wrapped-same : (space base order selector : ℕ) → selector ≡ base % selectors object → Proper (record { space = space; base = base; order = order; mask = 31 }) → selector ≡ base
+wrapped-same space base order selector is-selector proper =
+    let small : base < selectors object = omega (arith, proper .ends-inside, pow-pos order) in
+    omega (arith, is-selector, small)
+
+-- so that its range is as proper
 pub wrapped-proper : (space base order selector : ℕ) → selector ≡ base % selectors object → Proper (record { space = space; base = base; order = order; mask = 31 }) →
     Proper (record { space = space; base = selector; order = order; mask = 31 })
-wrapped-proper space base order selector is-selector proper =
-    let small : base < selectors object = omega (arith, proper .ends-inside, pow-pos order) in
-    let same : selector ≡ base = omega (arith, is-selector, small) in
-    rw same proper
+wrapped-proper space base order selector is-selector proper = rw (wrapped-same space base order selector is-selector proper) proper
+
+-- and its descriptor is the range's
+pub wrapped-describes : (space base order selector descriptor word : ℕ) → word ≡ descriptor → descriptor ≡ describe (record { space = space; base = selector; order = order; mask = 31 }) →
+    selector ≡ base % selectors object → Proper (record { space = space; base = base; order = order; mask = 31 }) → word ≡ describe (record { space = space; base = base; order = order; mask = 31 })
+wrapped-describes space base order selector descriptor word is-word described is-selector proper =
+    is-word ∙ rw (sym (wrapped-same space base order selector is-selector proper)) described

@@ -1,5 +1,6 @@
 // The hypercalls of the story, by name. The root makes all creations and the REVOKE.
-ghost use Rattle.descriptor.specs.Descriptors.{Proper};
+ghost use mathlib.Core.Path.{_≡_};
+ghost use Rattle.descriptor.specs.Descriptors.{Proper, describe};
 use descriptor::Descriptor;
 use descriptor::Reply;
 use descriptor::Selector;
@@ -34,6 +35,7 @@ const HYPERVISOR: u32 = 2048;
 // The descriptor of a range with all mask bits.
 pub fn range(space: u32, base: u32, order: u32) -> u32
     requires { ⌜ Proper (record { space = space; base = base; order = order; mask = 31 }) ⌝ }
+    ensures { λ r. ⌜ r ≡ describe (record { space = space; base = base; order = order; mask = 31 }) ⌝ }
 {
     Descriptor::of(space, Selector::wrapped(base), order, ALL).word()
 }
