@@ -1,5 +1,5 @@
 -- The rules of places as the code tests them: what each definition gives on each way out of the function that tests it.
-use Prim.Native.Nat.{ℕ, zero, suc, _+_, _-_, _*_, _/_, _%_, _≤_, _<_}
+use Prim.Native.Nat.{ℕ, zero, suc, _+_, _-_, _*_, _/_, _%_, _^_, _≤_, _<_}
 use mathlib.Core.Path.{_≡_, refl, sym, ap, _∙_}
 use mathlib.Core.Bool.{Bool, true, false, not, _&&_, _||_, and-false}
 use mathlib.Core.List.{List}
@@ -8,11 +8,14 @@ use lib.Dec.{eqb, leb, ltb}
 use lib.ListN.{length}
 use borrow.Author.Tests.{ltb-true, leb-true, leb-false, lt-ltb, le-ltb, le-leb, lt-leb, eqb-true, eq-eqb, ne-eqb, not-false}
 use Rattle.words.specs.Sizes.{domains, memory, io, object, spaces, selectors, start, stride, placeOf, domainOf, spaceOf, selectorOf, places, records, greatestDepth}
-use Rattle.words.specs.Permissions.{within}
+use Rattle.words.specs.Fields.{bits}
+use Rattle.words.specs.Permissions.{within, permits}
 use Rattle.words.proofs.PlaceLaws.{domain-back, space-back, selector-back, made-so, space-small, selector-small}
 use Rattle.interface.specs.Places.{Cap, State, Tables, live, nothing, parentless, free, placeTableWords, objectAt, shown, kindOf, greatestOf, greatest}
 use Rattle.interface.specs.Boot.{hypervisor, cpus, rootPd, bootRecord, hypervisorCap, bootCap}
 use Rattle.interface.specs.Damage.{between1, sameCap, fixed-place, hasPd, null-place, isResource, live-place, shallow}
+use Rattle.interface.specs.Basics.{if_then_else_, allBelow}
+use Rattle.interface.proofs.BelowLaws.{all-below-at}
 use Rattle.interface.proofs.BoolLaws.{cases, and-right, both, same-test, or-none-left, or-none-right}
 use Rattle.interface.proofs.PlaceFacts.{same-cap, some-live, more-live}
 use Rattle.soundness.specs.Keeping.{parentFits, lineageKeeps, placeKeeps, Numbered, Kept, Around}
@@ -53,16 +56,30 @@ pub space-so : (place : ℕ) → place / selectors object % spaces ≡ spaceOf p
 space-so place =
     rw (made-so place) at (space-at (domainOf place) (spaceOf place) (selectorOf place) (space-small place) (selector-small place))
 
--- spaces take turns: a block of places is of a space where it is the space's number past a multiple of theirs
-pub turn-tells : (place space : ℕ) → space < spaces → eqb ((place / selectors object + spaces - space) % spaces) 0 ≡ eqb (spaceOf place) space
-turn-tells place space h =
-    let k = place / selectors object in
-    same-test (eqb ((k + spaces - space) % spaces) 0) (eqb (k % spaces) space)
-    (λ (t : eqb ((k + spaces - space) % spaces) 0 ≡ true).
-    let none = eqb-true ((k + spaces - space) % spaces) 0 t in eq-eqb (k % spaces) space (omega arith))
-    (λ (t : eqb (k % spaces) space ≡ true).
-    let is-space = eqb-true (k % spaces) space t in eq-eqb ((k + spaces - space) % spaces) 0 (omega arith)) ∙
-    ap (λ (n : ℕ). eqb n space) (space-so place)
+-- spaces take turns: every third block is of the first space, and those of another come as many blocks later as its number says
+abbrev turns : ℕ → ℕ
+turns space = 2396745 * 2 ^ space % 2 ^ 32
+
+abbrev bitOf : Bool → ℕ
+bitOf told = if told then 1 else 0
+
+bit-tells : (told : Bool) → eqb (bitOf told) 1 ≡ told
+bit-tells true = refl
+bit-tells false = refl
+
+abbrev takesTurn : ℕ → ℕ → Bool
+takesTurn space block = eqb (bits block block (turns space)) (bitOf (eqb (block % spaces) space))
+
+all-take-turns : allBelow spaces (λ space. allBelow (domains * spaces) (takesTurn space)) ≡ true
+unfolding allBelow
+all-take-turns = refl
+
+pub turn-tells : (place space : ℕ) → place < places → space < spaces → permits (place / selectors object) (turns space) ≡ eqb (spaceOf place) space
+turn-tells place space l h =
+    let block = place / selectors object in
+    let all = all-below-at spaces (λ n. allBelow (domains * spaces) (takesTurn n)) all-take-turns space h in
+    let here = eqb-true (bits block block (turns space)) (bitOf (eqb (block % spaces) space)) (all-below-at (domains * spaces) (takesTurn space) all block (omega arith)) in
+    rw here (bit-tells (eqb (block % spaces) space)) ∙ ap (λ (n : ℕ). eqb n space) (space-so place)
 
 -- domain 0 at boot
 boot-there : (space selector : ℕ) → space < spaces → selector < selectors space → bootCap (placeOf hypervisor space selector) ≡ hypervisorCap space selector

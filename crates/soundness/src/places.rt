@@ -20,6 +20,9 @@ const SPACES: u32 = 3;
 
 const ALL_SPACES: u32 = 24;
 
+// Spaces take turns: the blocks of places that are of the first space, a bit for each block. Those of another space come as many blocks later as its number says.
+const TURNS: u32 = 2396745;
+
 // Where domain 0's capabilities for the idle SCs end, and those for the interrupts.
 const IDLE_END: u32 = 132;
 
@@ -53,12 +56,12 @@ pub fn space_of(place: u32) -> u32
     place / sizes::SELECTORS % SPACES
 }
 
-// Whether a place is of a space: spaces take turns, so that the block of a place is the space's number past a multiple of theirs.
+// Whether a place is of a space: the block of a place's number has its bit in the space's turns.
 fn is_of_space(place: u32, space: u32) -> bool
     requires { ⌜ (place < places) × (space < spaces) ⌝ }
     ensures { λ r. ⌜ r ≡ eqb (spaceOf place) space ⌝ }
 {
-    (place / sizes::SELECTORS + SPACES - space) % SPACES == 0
+    permissions::has(place / sizes::SELECTORS, TURNS << space)
 }
 
 // Whether two places show the same.
@@ -216,10 +219,11 @@ fn quick_keeps(table: &[u32], objects: &[u32], place: u32, space: u32) -> bool
     if cap.permissions == 0 {
         return is_same(cap, without_parent(0, 0));
     }
-    if cap.parent == 0 {
-        return (space == sizes::OBJECT) & (cap.depth == 0) & names_object(objects, cap);
+    if (1 <= cap.parent) & (cap.parent <= sizes::PLACES) {
+        return (cap.depth <= sizes::GREATEST_DEPTH)
+            & parent_fits(table, space, cap, cap.parent - 1);
     }
-    parent_fits(table, space, cap, cap.parent - 1) & (cap.depth <= sizes::GREATEST_DEPTH)
+    (cap.parent == 0) & (space == sizes::OBJECT) & (cap.depth == 0) & names_object(objects, cap)
 }
 
 // Whether the words of a group of places are all 0.

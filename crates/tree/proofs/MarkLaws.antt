@@ -19,7 +19,7 @@ use Rattle.interface.specs.Effects.{among, below}
 use Rattle.interface.proofs.BoolLaws.{cases}
 use Rattle.interface.proofs.BelowLaws.{below-suc}
 use Rattle.interface.proofs.TableLaws.{length-listed, word-listed}
-use Rattle.tree.specs.Walks.{cutAt, packed, marksOf, markAt}
+use Rattle.tree.specs.Walks.{cutAt, packed, marksOf, markAt, Marked}
 
 module _ (test : ℕ → Bool) where
   -- the bit that tells the answer for a place
@@ -57,12 +57,15 @@ module _ (test : ℕ → Bool) where
   packed-at : (n place i : ℕ) → i < n → permits i (packed test place n) ≡ test (place + i)
   packed-at n place i l = rw (add-sub-cancel-left i 1, bit-at n place i l) (bit-test (place + i))
 
-  -- the answer for each place is read back from the words
-  pub mark-at : (place : ℕ) → place < places → markAt (marksOf test) place ≡ test place
-  mark-at place l =
+  -- the answer for a place is read back from its word
+  mark-read : (marks : List ℕ) (place : ℕ) → word marks (place / 32) ≡ packed test (place / 32 * 32) 32 → markAt marks place ≡ test place
+  mark-read marks place e =
       let here : place / 32 * 32 + place % 32 ≡ place = omega arith in
-      rw (word-listed (λ (number : ℕ). packed test (number * 32) 32) (places / 32) (place / 32) (omega arith))
-      (packed-at 32 (place / 32 * 32) (place % 32) (omega arith) ∙ ap test here)
+      rw e (packed-at 32 (place / 32 * 32) (place % 32) (omega arith) ∙ ap test here)
+
+  -- and so for all places
+  pub mark-at : (place : ℕ) → place < places → markAt (marksOf test) place ≡ test place
+  mark-at place l = mark-read (marksOf test) place (word-listed (λ (number : ℕ). packed test (number * 32) 32) (places / 32) (place / 32) (omega arith))
 
   -- behind the last of 32 places no bits are there
   pub packed-start : (from : ℕ) → 0 ≡ packed test (from + 32) (from + 32 - (from + 32))
@@ -97,6 +100,21 @@ pub cut-told : (caps : ℕ → Cap) (first size place : ℕ) (self : Bool) {at :
     (answer || (self && among first size place)) ≡ cutAt caps first size self place
 cut-told caps first size place self is-at told = rw (told, is-at)
 
+-- a place is below a range where its parent is in it or below it, and a parent outside is marked where it is below
+above-told : (among-above below-above self : Bool) → (among-above || (below-above || (self && among-above))) ≡ (among-above || below-above)
+above-told true below-above self = refl
+above-told false true self = refl
+above-told false false true = refl
+above-told false false false = refl
+
+pub cut-marked : (caps : ℕ → Cap) (first size place above : ℕ) (self : Bool) (marks : List ℕ) {mark : Bool} →
+    below caps first size place ≡ (among first size above || below caps first size above) → mark ≡ markAt marks above →
+    markAt marks above ≡ cutAt caps first size self above →
+    ((among first size above || mark) || (self && among first size place)) ≡ cutAt caps first size self place
+cut-marked caps first size place above self marks is-below is-mark told =
+    rw (is-below, is-mark, told)
+    (ap (λ (t : Bool). t || (self && among first size place)) (above-told (among first size above) (below caps first size above) self))
+
 -- a list whose words below a number are those of a function
 pub record Stored (f : ℕ → ℕ) (size number : ℕ) (list : List ℕ) : Type 0 where
   pub as-long : length list ≡ size
@@ -124,3 +142,7 @@ module _ {f : ℕ → ℕ} {size number : ℕ} {list : List ℕ} (stored : Store
       (λ n l.
       let small : n < size = rw (stored .as-long) at l in
       stored .so-far n (rw all small) ∙ sym (word-listed f size n small))
+
+-- words that were stored up to a number tell of the places before theirs
+pub stored-marked : (test : ℕ → Bool) (size number : ℕ) (list : List ℕ) → Stored (λ n. packed test (n * 32) 32) size number list → Marked test (number * 32) list
+stored-marked test size number list stored = record { told = λ place l. mark-read test list place (stored .so-far (place / 32) (omega arith)) }

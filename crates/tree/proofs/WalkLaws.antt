@@ -1,7 +1,7 @@
 -- Laws of walks along parent links: a walk ends at a place without a parent, and goes on from a parent, whose depth is one less.
 use Prim.Native.Nat.{ℕ, suc, _+_, _-_, _<_}
 use mathlib.Core.Path.{_≡_, refl, sym, ap, _∙_}
-use mathlib.Core.Bool.{true, false, not}
+use mathlib.Core.Bool.{true, false, not, _||_}
 use mathlib.Core.List.{List, [], _∷_}
 use native.Mathlib.Omega.{arith}
 use lib.Dec.{eqb}
@@ -46,6 +46,11 @@ module _ {caps : ℕ → Cap} {place : ℕ} {cap : Cap} (linked : Linked caps) (
       r ≡ firstAmong first size (ancestors caps next) → r ≡ firstAmong first size (ancestors caps place)
   unfolding firstAmong
   walk-passes first size r next some f is-next e = rw (walk-on some, f, ← is-next) e
+
+  -- a place is below some places where its parent is among them or below them
+  pub walk-below : (first size : ℕ) → (cap .parent ≡ 0 → ⊥) → below caps first size place ≡ (among first size above || below caps first size above)
+  unfolding below any
+  walk-below first size some = rw (walk-on some)
 
 -- a walk finds a place where one that it passes is among the places
 found-any : (first size : ℕ) (list : List ℕ) → not (eqb (firstAmong first size list) 0) ≡ any (among first size) list

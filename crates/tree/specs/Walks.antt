@@ -45,6 +45,10 @@ marksOf test = listed (places / 32) (λ number. packed test (number * 32) 32)
 abbrev pub markAt : List ℕ → ℕ → Bool
 markAt marks place = permits (place % 32) (word marks (place / 32))
 
+-- words whose bits are a test's answers for the places before one
+pub record Marked (test : ℕ → Bool) (number : ℕ) (marks : List ℕ) : Type 0 where
+  pub told : (place : ℕ) → place < number → markAt marks place ≡ test place
+
 -- a state that shows a place table; what is read of it here does not look at the objects
 abbrev pub placesOnly : List ℕ → State
 placesOnly table = record { caps = capAt table; objects = λ number index. 0 }

@@ -9,7 +9,7 @@ ghost use Rattle.interface.specs.Places.{capAt, capTable};
 ghost use Rattle.interface.specs.Effects.{ancestors, below, stripped, cutCaps};
 ghost use Rattle.interface.specs.Census.{descendants, counted};
 ghost use Rattle.places.specs.Table.{Sized};
-ghost use Rattle.tree.specs.Walks.{Linked, InSpace, Stepped, firstAmong, cutAt, packed, marksOf, markAt, placesOnly};
+ghost use Rattle.tree.specs.Walks.{Linked, InSpace, Stepped, firstAmong, cutAt, packed, marksOf, markAt, Marked, placesOnly};
 use descriptor::Cap;
 use descriptor::FoundPlace;
 use descriptor::Place;
@@ -43,9 +43,25 @@ pub fn is_below(table: &[u32], place: Place, first: u32, size: u32) -> bool
     ancestor(table, place, first, size) != 0
 }
 
-// Whether a place loses permissions.
-fn is_cut(table: &[u32], place: u32, first: u32, size: u32, self_too: bool) -> bool
-    requires { ⌜ Sized (now table) × Linked (capAt (now table)) × (place < places) × (first + size ≤ places) ⌝ }
+// Whether a place is marked.
+fn is_marked(marked: &[u32; 48], place: u32) -> bool
+    requires { ⌜ place < places ⌝ }
+    ensures { λ r. ⌜ r ≡ markAt (now (marked .entry)) place ⌝ }
+{
+    permissions::has(place % 32, marked[(place / 32) as usize])
+}
+
+// Whether a place loses permissions, where those places before `walked` that do are marked: a parent among these tells of its child, and from any other place the walk does.
+fn is_cut(
+    table: &[u32],
+    marked: &[u32; 48],
+    walked: u32,
+    place: u32,
+    first: u32,
+    size: u32,
+    self_too: bool,
+) -> bool
+    requires { ⌜ Sized (now table) × Linked (capAt (now table)) × (place < places) × (first + size ≤ places) × Marked (cutAt (capAt (now table)) first size «self_too») walked (now marked) ⌝ }
     ensures { λ r. ⌜ r ≡ cutAt (capAt (now (table .entry))) first size «self_too» place ⌝ }
 {
     let among = (first <= place) & (place < first + size);
@@ -54,13 +70,25 @@ fn is_cut(table: &[u32], place: u32, first: u32, size: u32, self_too: bool) -> b
     if cap.parent == 0 {
         return self_too & among;
     }
+    let above = cap.parent - 1;
+    if above < walked {
+        let below = ((first <= above) & (above < first + size)) | is_marked(marked, above);
+        return below | (self_too & among);
+    }
     let below = is_below(table, at, first, size);
     below | (self_too & among)
 }
 
-// Which of the 32 places from one on lose permissions, a bit for each: the lowest is that of the first. They are walked from the last on.
-fn mark_word(table: &[u32], from: u32, first: u32, size: u32, self_too: bool) -> u32
-    requires { ⌜ Sized (now table) × Linked (capAt (now table)) × (from % 32 ≡ 0) × (from + 32 ≤ places) × InSpace first size ⌝ }
+// Which of the 32 places from one on lose permissions, a bit for each: the lowest is that of the first. They are walked from the last on, and those before them are marked.
+fn mark_word(
+    table: &[u32],
+    marked: &[u32; 48],
+    from: u32,
+    first: u32,
+    size: u32,
+    self_too: bool,
+) -> u32
+    requires { ⌜ Sized (now table) × Linked (capAt (now table)) × (from % 32 ≡ 0) × (from + 32 ≤ places) × InSpace first size × Marked (cutAt (capAt (now table)) first size «self_too») from (now marked) ⌝ }
     ensures { λ r. ⌜ r ≡ packed (cutAt (capAt (now (table .entry))) first size «self_too») from 32 ⌝ }
 {
     if Place::nth(from).space() != Place::nth(first).space() {
@@ -71,7 +99,7 @@ fn mark_word(table: &[u32], from: u32, first: u32, size: u32, self_too: bool) ->
     while from < place {
         place -= 1;
         word *= 2;
-        if is_cut(table, place, first, size, self_too) {
+        if is_cut(table, marked, from, place, first, size, self_too) {
             word += 1;
         }
     }
@@ -86,18 +114,11 @@ fn marks(table: &[u32], first: u32, size: u32, self_too: bool) -> [u32; 48]
     let mut marked = [0u32; 48];
     let mut walked = 0u32;
     while walked < 48 {
-        marked[walked as usize] = mark_word(table, walked * 32, first, size, self_too);
+        let word = mark_word(table, &marked, walked * 32, first, size, self_too);
+        marked[walked as usize] = word;
         walked += 1;
     }
     marked
-}
-
-// Whether a place is marked.
-fn is_marked(marked: &[u32; 48], place: u32) -> bool
-    requires { ⌜ place < places ⌝ }
-    ensures { λ r. ⌜ r ≡ markAt (now (marked .entry)) place ⌝ }
-{
-    permissions::has(place % 32, marked[(place / 32) as usize])
 }
 
 // Removes a mask's permissions from every strict descendant of the places from `first` on, and from those places too if asked. A place left with none becomes null.

@@ -11,11 +11,11 @@ use Rattle.tree.proofs.mark_word.Statement.{statement}
 use Rattle.tree.proofs.mark_word.Tie as tie
 
 abbrev Inv-loop : tie.InvT-loop
-Inv-loop table from first size self-too word₀ place₀ word place =
+Inv-loop table marked from first size self-too word₀ place₀ word place =
     (from ≤ place) × (place ≤ from + 32) × (word ≡ packed (cutAt (capAt table) first size self-too) place (from + 32 - place))
 
 abbrev μ-loop : tie.MeasureT-loop
-μ-loop table from first size self-too word₀ place₀ word place = place
+μ-loop table marked from first size self-too word₀ place₀ word place = place
 
 nth-requires : tie.Need-nth-requires Inv-loop μ-loop
 nth-requires c κs = omega arith

@@ -4,7 +4,7 @@ use native.Mathlib.Omega.{arith}
 use borrow.Author.Needs.{needs}
 use Rattle.interface.specs.Places.{capAt}
 use Rattle.tree.specs.Walks.{cutAt, packed}
-use Rattle.tree.proofs.MarkLaws.{Stored, stored-none, stored-more, stored-all}
+use Rattle.tree.proofs.MarkLaws.{Stored, stored-none, stored-more, stored-all, stored-marked}
 use Rattle.tree.proofs.marks.Statement.{statement}
 use Rattle.tree.proofs.marks.Tie as tie
 
@@ -22,7 +22,7 @@ mul-mark-word : tie.Need-mul-mark-word Inv-loop μ-loop
 mul-mark-word c = search needs
 
 mark-word-requires : tie.Need-mark-word-requires Inv-loop μ-loop
-mark-word-requires c κs = search needs
+mark-word-requires c κs = search (stored-marked, needs)
 
 cast-marked : tie.Need-cast-marked Inv-loop μ-loop
 cast-marked c = search needs
@@ -40,7 +40,7 @@ loop-less : tie.Need-loop-less Inv-loop μ-loop
 loop-less c = search needs
 
 loop-again : tie.Need-loop-again Inv-loop μ-loop
-loop-again c = (omega arith, stored-more (c .before .before .loop .inv .1) _ (omega arith) (c .mark-word .ensures))
+loop-again c = (omega arith, stored-more (c .before .before .before .loop .inv .1) _ (omega arith) (c .mark-word .ensures))
 
 returns : tie.Need-returns Inv-loop μ-loop
 returns c = stored-all (c .before .loop .inv .1) (omega arith)
