@@ -60,29 +60,6 @@ module _ (number : ℕ) where
               )
               (short-words [] 5)
 
--- the greatest permissions
-no-kind : (kind : ℕ) → (kind ≡ PD → ⊥) → (kind ≡ EC → ⊥) → (kind ≡ SC → ⊥) → (kind ≡ PT → ⊥) → (kind ≡ SM → ⊥) → 0 ≡ greatestOf kind
-no-kind zero a b d e f = refl
-no-kind (suc zero) a b d e f = absurd (a refl)
-no-kind (suc (suc zero)) a b d e f = absurd (b refl)
-no-kind (suc (suc (suc zero))) a b d e f = absurd (d refl)
-no-kind (suc (suc (suc (suc zero)))) a b d e f = absurd (e refl)
-no-kind (suc (suc (suc (suc (suc zero))))) a b d e f = absurd (f refl)
-no-kind (suc (suc (suc (suc (suc (suc n)))))) a b d e f = refl
-
-pub greatest-memory : (space kind : ℕ) → space ≡ memory → 7 ≡ greatest space kind
-greatest-memory space kind e = rw e
-
-pub greatest-io : (space kind : ℕ) → space ≡ io → 1 ≡ greatest space kind
-greatest-io space kind e = rw e
-
-pub greatest-kind : (known space kind : ℕ) → (space ≡ memory → ⊥) → (space ≡ io → ⊥) → kind ≡ known → greatestOf known ≡ greatest space kind
-greatest-kind known space kind m i e = rw (ne-eqb space memory m, ne-eqb space io i, e)
-
-pub greatest-none : (space kind : ℕ) → (space ≡ memory → ⊥) → (space ≡ io → ⊥) → (kind ≡ PD → ⊥) → (kind ≡ EC → ⊥) → (kind ≡ SC → ⊥) →
-    (kind ≡ PT → ⊥) → (kind ≡ SM → ⊥) → 0 ≡ greatest space kind
-greatest-none space kind m i a b d e f = rw (ne-eqb space memory m, ne-eqb space io i) (no-kind kind a b d e f)
-
 -- the capability for a record
 pub object-cap : (number kind first second third fourth most : ℕ) (cap : Cap) → word (fiveWords kind first second third fourth) ≡ word (bootRecord number) →
     most ≡ greatest object kind → cap ≡ parentless number most → cap ≡ bootObject number

@@ -1,7 +1,7 @@
 // Boot: the tables as they are when the controller starts.
 ghost use mathlib.Core.Path.{_≡_};
 ghost use Rattle.interface.specs.Basics.{word};
-ghost use Rattle.interface.specs.Places.{nothing, parentless, sized, greatest, capTable, recordTable};
+ghost use Rattle.interface.specs.Places.{nothing, sized, capTable, recordTable};
 ghost use Rattle.interface.specs.Boot.{bootRecord, bootObject, hypervisorCap, rootCap, bootCap};
 ghost use Rattle.places.specs.Table.{Sized as SizedPlaces};
 ghost use Rattle.objects.specs.Records.{Sized as SizedObjects, fiveWords};
@@ -16,18 +16,16 @@ use words::sizes;
 // The domains of the hypervisor and of the root.
 const HYPERVISOR: u32 = 0;
 
-const ROOT: u32 = 1;
+pub const ROOT: u32 = 1;
 
 // Each CPU has an idle SC and each interrupt a semaphore; the records of the root's PD, EC and SC follow them.
-const CPUS: u32 = 4;
-
 const GSIS: u32 = 24;
 
-const ROOT_PD: u32 = CPUS + GSIS;
+pub const ROOT_PD: u32 = objects::CPUS + GSIS;
 
-const ROOT_EC: u32 = ROOT_PD + 1;
+pub const ROOT_EC: u32 = ROOT_PD + 1;
 
-const ROOT_SC: u32 = ROOT_PD + 2;
+pub const ROOT_SC: u32 = ROOT_PD + 2;
 
 // The root holds these three at the selectors from EXC on.
 const ROOT_OBJECTS: u32 = 3;
@@ -35,12 +33,12 @@ const ROOT_OBJECTS: u32 = 3;
 const EXC: u32 = 32;
 
 // The root SC's priority and quantum.
-const ROOT_PRIORITY: u32 = 1;
+pub const ROOT_PRIORITY: u32 = 1;
 
-const ROOT_QUANTUM: u32 = 10000;
+pub const ROOT_QUANTUM: u32 = 10000;
 
 // The EC word of an idle SC: no EC's number.
-const NO_EC: u32 = sizes::RECORDS;
+pub const NO_EC: u32 = sizes::RECORDS;
 
 // The lengths of the two tables.
 const PLACE_TABLE_WORDS: usize = sizes::PLACE_WORDS * sizes::PLACES as usize;
@@ -54,7 +52,7 @@ struct Words(u32, u32, u32, u32, u32);
 fn boot_record(number: u32) -> Words
     ensures { λ r. ⌜ word (fiveWords (r .0) (r .1) (r .2) (r .3) (r .4)) ≡ word (bootRecord number) ⌝ }
 {
-    if number < CPUS {
+    if number < objects::CPUS {
         return Words(objects::SC, NO_EC, 0, 0, 0);
     }
     if number < ROOT_PD {
@@ -72,43 +70,11 @@ fn boot_record(number: u32) -> Words
     Words(objects::FREE, 0, 0, 0, 0)
 }
 
-// The greatest permissions in a space, of an object of a kind.
-fn greatest_permissions(space: u32, kind: u32) -> u32
-    ensures { λ r. ⌜ r ≡ greatest space kind ⌝ }
-{
-    if space == sizes::MEMORY {
-        return 7;
-    }
-    if space == sizes::IO {
-        return 1;
-    }
-    match kind {
-        objects::PD => 31,
-        objects::EC => 7,
-        objects::SC => 1,
-        objects::PT => 3,
-        objects::SM => 3,
-        _ => 0,
-    }
-}
-
-// A capability that has no parent.
-fn without_parent(resource: u32, permissions: u32) -> Cap
-    ensures { λ r. ⌜ r ≡ parentless resource permissions ⌝ }
-{
-    Cap {
-        resource,
-        permissions,
-        parent: 0,
-        depth: 0,
-    }
-}
-
 // What a null place holds.
 fn null_cap() -> Cap
     ensures { λ r. ⌜ r ≡ nothing ⌝ }
 {
-    without_parent(0, 0)
+    places::without_parent(0, 0)
 }
 
 // The capability for a record of boot.
@@ -116,7 +82,10 @@ fn boot_object(number: u32) -> Cap
     ensures { λ r. ⌜ r ≡ bootObject number ⌝ }
 {
     let words = boot_record(number);
-    without_parent(number, greatest_permissions(sizes::OBJECT, words.0))
+    places::without_parent(
+        number,
+        objects::greatest_permissions(sizes::OBJECT, words.0),
+    )
 }
 
 // What domain 0 holds at boot.
@@ -125,7 +94,7 @@ fn hypervisor_cap(space: u32, selector: Selector) -> Cap
 {
     let number = selector.number();
     if space < sizes::OBJECT {
-        return without_parent(number, greatest_permissions(space, objects::FREE));
+        return places::without_parent(number, objects::greatest_permissions(space, objects::FREE));
     }
     if number < ROOT_PD {
         return boot_object(number);
@@ -145,7 +114,7 @@ fn root_cap(space: u32, selector: Selector) -> Cap
 }
 
 // What a place holds at boot.
-fn boot_cap(place: Place) -> Cap
+pub fn boot_cap(place: Place) -> Cap
     ensures { λ r. ⌜ r ≡ bootCap (place .0) ⌝ }
 {
     let domain = place.domain();
@@ -189,7 +158,7 @@ fn fill_objects(table: &mut [u32])
 }
 
 // Whether both tables have their lengths.
-fn are_sized(places: &[u32], objects: &[u32]) -> bool
+pub fn are_sized(places: &[u32], objects: &[u32]) -> bool
     ensures { λ r. ⌜ r ≡ sized (record { places = now (places .entry); objects = now (objects .entry) }) ⌝ }
 {
     (places.len() == PLACE_TABLE_WORDS) & (objects.len() == OBJECT_TABLE_WORDS)

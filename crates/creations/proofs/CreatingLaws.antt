@@ -24,17 +24,17 @@ use Rattle.creations.specs.declared.Checked.the-variants.{Takes, Refused
 use Rattle.creations.specs.Creating.{ruleOf, Passes, Judged, passed, failed, Decides, Created, Hands}
 
 -- storing an object's words in its record and filling its place
-pub created : {places objects placesAfter objectsAfter : List ℕ} {domain selector place number named kind first second third fourth permissions : ℕ} →
+pub created : {places objects placesAfter objectsAfter : List ℕ} {domain selector place number named kind first second third fourth permissions : ℕ} {cap : Cap} →
     objectsAfter ≡ recordTable (put (objectAt objects) number (word (fiveWords kind first second third fourth))) → place ≡ objectPlace domain selector →
-    named ≡ number → permissions ≡ greatestOf kind → placesAfter ≡ capTable (put (capAt places) place (parentless named permissions)) →
+    named ≡ number → permissions ≡ greatestOf kind → cap ≡ parentless named permissions → placesAfter ≡ capTable (put (capAt places) place cap) →
     Created (tables places objects) (tables placesAfter objectsAfter) domain selector number (fiveWords kind first second third fourth)
 unfolding run act
-created {objects = objects} {number = number} stored is-place is-number is-greatest filled =
+created {objects = objects} {number = number} stored is-place is-number is-greatest is-cap filled =
     record {
       leaves =
           λ words same.
           let kind-is = ap (λ (row : ℕ → ℕ). row kindWord) same in
-          rw (stored, filled, is-place, is-number, is-greatest, same, put-same (objectAt objects) number (word words), kind-is);
+          rw (stored, filled, is-cap, is-place, is-number, is-greatest, same, put-same (objectAt objects) number (word words), kind-is);
     }
 
 -- no delegations leave a table

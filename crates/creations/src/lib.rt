@@ -3,7 +3,7 @@ ghost use mathlib.Core.Path.{_≡_};
 ghost use Prim.Native.Nat.{_^_, _<_, _≤_};
 ghost use Rattle.words.specs.Sizes.{domains, object, records};
 ghost use Rattle.descriptor.specs.Descriptors.{Proper};
-ghost use Rattle.interface.specs.Places.{SM, greatestOf};
+ghost use Rattle.interface.specs.Places.{SM};
 ghost use Rattle.interface.specs.Verdicts.{Call};
 ghost use Rattle.interface.specs.Creations.{handOn, initialGood, initialGives, createPd, createEc, createSc, createPt, createSm};
 ghost use Rattle.interface.specs.Rules.{Runs};
@@ -20,9 +20,6 @@ use descriptor::Reading;
 use descriptor::Reply;
 use words::ranges;
 use words::sizes;
-
-// The number of CPUs.
-pub const CPUS: u32 = 4;
 
 // The numbers of the bits that permit binding an SC and a PT to an EC.
 const BIND_SC: u32 = 1;
@@ -84,15 +81,6 @@ fn check(
     Checked::Takes(ObjectNumber::nth(free))
 }
 
-// The greatest permissions of an object of a kind.
-fn greatest(kind: u32) -> u32
-    requires { ⌜ kind ≤ SM ⌝ }
-    ensures { λ r. ⌜ r ≡ greatestOf kind ⌝ }
-{
-    let by_kind = [0u32, 31, 7, 1, 3, 3];
-    by_kind[kind as usize]
-}
-
 // Stores a new object in its record, and gives its place the greatest permissions and no parent.
 fn create(
     places: &mut [u32],
@@ -113,12 +101,7 @@ fn create(
     places::store(
         places,
         capabilities::object_place(domain, selector),
-        Cap {
-            resource: number.number(),
-            permissions: greatest(kind),
-            parent: 0,
-            depth: 0,
-        },
+        places::without_parent(number.number(), objects::greatest_of(kind)),
     );
 }
 
@@ -221,7 +204,7 @@ pub fn create_ec(
     let new = Creation {
         kind: objects::EC,
         bindable: true,
-        cpu_good: cpu < CPUS,
+        cpu_good: cpu < objects::CPUS,
         parameters_good: true,
         domain_left: true,
     };

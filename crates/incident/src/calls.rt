@@ -1,6 +1,12 @@
 // The hypercalls of the story, by name. The root makes all creations and the REVOKE.
+ghost use Prim.Native.Nat.{_+_};
 ghost use mathlib.Core.Path.{_≡_};
 ghost use Rattle.descriptor.specs.Descriptors.{Proper, describe};
+ghost use Rattle.interface.specs.Boot.{rootEc, exc};
+ghost use Rattle.interface.specs.Verdicts.{CREATE-PD, CREATE-EC, CREATE-PT, REVOKE, LOOKUP};
+ghost use Rattle.capabilities.specs.Callers.{tables};
+ghost use Rattle.kernel.specs.Promises.{Answered, answered};
+ghost use Rattle.incident.specs.Story.{cpu, delegate, fromHypervisor, itemBlock, letter, question, windowBlock};
 use descriptor::Descriptor;
 use descriptor::Reply;
 use descriptor::Selector;
@@ -49,9 +55,11 @@ fn ask(
     third: u32,
     places: &mut [u32],
     objects: &mut [u32],
-) -> Reply {
-    let source = [0u32; sizes::BLOCK_WORDS];
-    let mut target = [0u32; sizes::BLOCK_WORDS];
+) -> Reply
+    ensures { λ r. ⌜ record { reply = r; tables = tables (now (places .exit)) (now (objects .exit)) } ≡ answered (tables (now (places .entry)) (now (objects .entry))) (question number caller first second third) ⌝ }
+{
+    let source: [u32; 0] = [];
+    let mut target: [u32; 0] = [];
     kernel::hypercall(
         number,
         caller,
@@ -69,7 +77,9 @@ fn ask(
 }
 
 // Makes a domain that starts with nothing.
-pub fn create_pd(selector: u32, places: &mut [u32], objects: &mut [u32]) -> Reply {
+pub fn create_pd(selector: u32, places: &mut [u32], objects: &mut [u32]) -> Reply
+    ensures { λ r. ⌜ record { reply = r; tables = tables (now (places .exit)) (now (objects .exit)) } ≡ answered (tables (now (places .entry)) (now (objects .entry))) (question CREATE-PD rootEc selector exc 0) ⌝ }
+{
     ask(
         kernel::CREATE_PD,
         ROOT_EC,
@@ -82,7 +92,9 @@ pub fn create_pd(selector: u32, places: &mut [u32], objects: &mut [u32]) -> Repl
 }
 
 // Makes an EC in the domain of a PD.
-pub fn create_ec(selector: u32, pd: u32, places: &mut [u32], objects: &mut [u32]) -> Reply {
+pub fn create_ec(selector: u32, pd: u32, places: &mut [u32], objects: &mut [u32]) -> Reply
+    ensures { λ r. ⌜ record { reply = r; tables = tables (now (places .exit)) (now (objects .exit)) } ≡ answered (tables (now (places .entry)) (now (objects .entry))) (question CREATE-EC rootEc selector pd cpu) ⌝ }
+{
     ask(
         kernel::CREATE_EC,
         ROOT_EC,
@@ -95,12 +107,16 @@ pub fn create_ec(selector: u32, pd: u32, places: &mut [u32], objects: &mut [u32]
 }
 
 // Makes another EC in the root's own domain.
-pub fn create_own_ec(selector: u32, places: &mut [u32], objects: &mut [u32]) -> Reply {
+pub fn create_own_ec(selector: u32, places: &mut [u32], objects: &mut [u32]) -> Reply
+    ensures { λ r. ⌜ record { reply = r; tables = tables (now (places .exit)) (now (objects .exit)) } ≡ answered (tables (now (places .entry)) (now (objects .entry))) (question CREATE-EC rootEc selector exc cpu) ⌝ }
+{
     create_ec(selector, ROOT_PD, places, objects)
 }
 
 // Makes a portal to an EC.
-pub fn create_pt(selector: u32, ec: u32, places: &mut [u32], objects: &mut [u32]) -> Reply {
+pub fn create_pt(selector: u32, ec: u32, places: &mut [u32], objects: &mut [u32]) -> Reply
+    ensures { λ r. ⌜ record { reply = r; tables = tables (now (places .exit)) (now (objects .exit)) } ≡ answered (tables (now (places .entry)) (now (objects .entry))) (question CREATE-PT rootEc selector exc ec) ⌝ }
+{
     ask(
         kernel::CREATE_PT,
         ROOT_EC,
@@ -113,13 +129,37 @@ pub fn create_pt(selector: u32, ec: u32, places: &mut [u32], objects: &mut [u32]
 }
 
 // Asks what a domain has around the base of a range.
-pub fn look_up(caller: u32, range: u32, places: &mut [u32], objects: &mut [u32]) -> Reply {
+pub fn look_up(caller: u32, range: u32, places: &mut [u32], objects: &mut [u32]) -> Reply
+    ensures { λ r. ⌜ record { reply = r; tables = tables (now (places .exit)) (now (objects .exit)) } ≡ answered (tables (now (places .entry)) (now (objects .entry))) (question LOOKUP caller range 0 0) ⌝ }
+{
     ask(kernel::LOOKUP, caller, range, 0, 0, places, objects)
 }
 
 // Takes back what was lent of a range of the root's, which keeps its own.
-pub fn revoke(range: u32, places: &mut [u32], objects: &mut [u32]) -> Reply {
+pub fn revoke(range: u32, places: &mut [u32], objects: &mut [u32]) -> Reply
+    ensures { λ r. ⌜ record { reply = r; tables = tables (now (places .exit)) (now (objects .exit)) } ≡ answered (tables (now (places .entry)) (now (objects .entry))) (question REVOKE rootEc range 0 0) ⌝ }
+{
     ask(kernel::REVOKE, ROOT_EC, range, 0, 0, places, objects)
+}
+
+// The sender's block of a message of one typed item.
+fn item_block(item: u32, second: u32) -> [u32; sizes::BLOCK_WORDS]
+    ensures { λ r. ⌜ r ≡ itemBlock item second ⌝ }
+{
+    let mut block = [0u32; sizes::BLOCK_WORDS];
+    block[COUNTS] = ONE_ITEM;
+    block[ITEM_DESCRIPTOR] = item;
+    block[ITEM_WORD] = second;
+    block
+}
+
+// The receiver's block of such a message: it accepts what is delegated in a window.
+fn window_block(window: u32) -> [u32; sizes::BLOCK_WORDS]
+    ensures { λ r. ⌜ r ≡ windowBlock window ⌝ }
+{
+    let mut block = [0u32; sizes::BLOCK_WORDS];
+    block[DELEGATE_WINDOW] = window;
+    block
 }
 
 // A message of one typed item, to a receiver that accepts it in a window.
@@ -131,13 +171,11 @@ fn send(
     window: u32,
     places: &mut [u32],
     objects: &mut [u32],
-) -> Reply {
-    let mut source = [0u32; sizes::BLOCK_WORDS];
-    source[COUNTS] = ONE_ITEM;
-    source[ITEM_DESCRIPTOR] = item;
-    source[ITEM_WORD] = second;
-    let mut target = [0u32; sizes::BLOCK_WORDS];
-    target[DELEGATE_WINDOW] = window;
+) -> Reply
+    ensures { λ r. ⌜ record { reply = r; tables = tables (now (places .exit)) (now (objects .exit)) } ≡ answered (tables (now (places .entry)) (now (objects .entry))) (letter caller portal item second window) ⌝ }
+{
+    let source = item_block(item, second);
+    let mut target = window_block(window);
     kernel::hypercall(
         kernel::CALL,
         caller,
@@ -162,12 +200,16 @@ pub fn lend(
     window: u32,
     places: &mut [u32],
     objects: &mut [u32],
-) -> Reply {
+) -> Reply
+    ensures { λ r. ⌜ record { reply = r; tables = tables (now (places .exit)) (now (objects .exit)) } ≡ answered (tables (now (places .entry)) (now (objects .entry))) (letter caller portal item delegate window) ⌝ }
+{
     send(caller, portal, item, DELEGATE, window, places, objects)
 }
 
 // Gives the root a range of the hypervisor's, at the same selectors, through a portal to an EC of the root's own.
-pub fn take(portal: u32, range: u32, places: &mut [u32], objects: &mut [u32]) -> Reply {
+pub fn take(portal: u32, range: u32, places: &mut [u32], objects: &mut [u32]) -> Reply
+    ensures { λ r. ⌜ record { reply = r; tables = tables (now (places .exit)) (now (objects .exit)) } ≡ answered (tables (now (places .entry)) (now (objects .entry))) (letter rootEc portal range (delegate + fromHypervisor) range) ⌝ }
+{
     send(
         ROOT_EC,
         portal,

@@ -16,7 +16,7 @@ use Rattle.descriptor.specs.Numbers.{numbered}
 use Rattle.descriptor.specs.declared.FoundObject.the-variants.{Numbered, Beyond}
 use Rattle.descriptor.proofs.DescriptorLaws.{numbered-so, numbered-inside}
 use Rattle.interface.specs.Basics.{if_then_else_}
-use Rattle.interface.specs.Places.{State, sized, tablesOf, EC, kindWord, objectAt, capAt, placeTableWords, objectTableWords}
+use Rattle.interface.specs.Places.{State, Tables, sized, tablesOf, EC, kindWord, objectAt, capAt, placeTableWords, objectTableWords}
 use Rattle.interface.specs.Damage.{soundState, sound, isEc}
 use Rattle.interface.specs.Effects.{Effect, run}
 use Rattle.interface.specs.Verdicts.{Call, Verdict, refuse, grant, require_else_then_, replyOf, effectsOf, blockOf}
@@ -31,7 +31,7 @@ use Rattle.capabilities.specs.Callers.{tables, view, Called}
 use Rattle.kernel.specs.declared.Admitted.{Admitted}
 use Rattle.kernel.specs.declared.Admitted.the-variants.{Ec, Refused}
 use Rattle.kernel.specs.Admission.{hasRule, isBuilt, admission}
-use Rattle.kernel.specs.Promises.{Outcome, outcome}
+use Rattle.kernel.specs.Promises.{Outcome, outcome, Answered, answered}
 
 -- a caller that is an object number is below the number of records
 pub numbered-small : (caller : ℕ) (number : ObjectNumber) → numbered caller ≡ Numbered number → number .0 < records
@@ -216,3 +216,8 @@ module _ (places objects : List ℕ) (t : sound (tables places objects) ≡ true
   census-links =
       sound-linked (view places objects)
       (sound-facts (view places objects) (and-right (sized (tables places objects)) (soundState (view places objects)) t))
+
+-- an outcome's reply and tables are the answer
+pub answers : (here after : Tables) (reply : Reply) (block : List ℕ) (c : Call) → record { reply = reply; tables = after; block = block } ≡ outcome here c →
+    record { reply = reply; tables = after } ≡ answered here c
+answers here after reply block c ran = ap (λ (o : Outcome). record { reply = o .reply; tables = o .tables }) ran

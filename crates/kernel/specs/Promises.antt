@@ -31,3 +31,11 @@ pub record Outcome : Type 0 where
 -- the outcome that the rules give
 abbrev pub outcome : Tables → Call → Outcome
 outcome tables c = record { reply = hypercallReply tables c; tables = hypercallTables tables c; block = hypercallBlock tables c }
+
+-- the same but for the callee's block
+pub record Answered : Type 0 where
+  pub reply : Reply
+  pub tables : Tables
+
+abbrev pub answered : Tables → Call → Answered
+answered tables c = record { reply = hypercallReply tables c; tables = hypercallTables tables c }

@@ -1,3 +1,4 @@
 -- The laws of the object table that the functions' proofs and the crates above cite.
+pub mod GreatestLaws
 pub mod RecordTableLaws
 pub mod CountingLaws

@@ -1,9 +1,9 @@
-// The object table: words of records, storing them, and what is counted in it.
+// The object table: kinds of objects and their permissions, words of records, storing them, and what is counted in it.
 ghost use mathlib.Core.Path.{_≡_};
 ghost use Prim.Native.Nat.{_<_};
 ghost use Rattle.words.specs.Sizes.{records, recordWords};
 ghost use Rattle.interface.specs.Basics.{word, put};
-ghost use Rattle.interface.specs.Places.{kindWord, countWord, objectAt, recordTable};
+ghost use Rattle.interface.specs.Places.{kindWord, countWord, greatestOf, greatest, objectAt, recordTable};
 ghost use Rattle.objects.specs.Records.{Sized, lowestFree, pdCount, fiveWords};
 use descriptor::ObjectNumber;
 use words::sizes;
@@ -21,6 +21,9 @@ pub const PT: u32 = 4;
 
 pub const SM: u32 = 5;
 
+// The number of CPUs.
+pub const CPUS: u32 = 4;
+
 // Where a record has its words: the kind; a PD's or an EC's domain; an EC's CPU; the EC of an SC or a PT; an SM's count.
 pub const KIND: usize = 0;
 
@@ -31,6 +34,33 @@ pub const CPU: usize = 2;
 pub const BOUND_EC: usize = 1;
 
 pub const COUNT: usize = 1;
+
+// The greatest permissions of an object of a kind.
+pub fn greatest_of(kind: u32) -> u32
+    ensures { λ r. ⌜ r ≡ greatestOf kind ⌝ }
+{
+    match kind {
+        PD => 31,
+        EC => 7,
+        SC => 1,
+        PT => 3,
+        SM => 3,
+        _ => 0,
+    }
+}
+
+// The greatest permissions in a space, of an object of a kind.
+pub fn greatest_permissions(space: u32, kind: u32) -> u32
+    ensures { λ r. ⌜ r ≡ greatest space kind ⌝ }
+{
+    if space == sizes::MEMORY {
+        return 7;
+    }
+    if space == sizes::IO {
+        return 1;
+    }
+    greatest_of(kind)
+}
 
 // A word of a record.
 pub fn load(table: &[u32], number: ObjectNumber, index: usize) -> u32

@@ -3,7 +3,7 @@ ghost use mathlib.Core.Path.{_≡_};
 ghost use Prim.Native.Nat.{_<_};
 ghost use Rattle.words.specs.Sizes.{places};
 ghost use Rattle.interface.specs.Basics.{put};
-ghost use Rattle.interface.specs.Places.{live, capAt, capTable};
+ghost use Rattle.interface.specs.Places.{live, parentless, capAt, capTable};
 ghost use Rattle.places.specs.Table.{Sized, Given};
 use descriptor::Cap;
 use descriptor::Place;
@@ -15,6 +15,18 @@ pub fn is_live(cap: Cap) -> bool
     ensures { λ r. ⌜ r ≡ live cap ⌝ }
 {
     0 < cap.permissions
+}
+
+// A capability without a parent.
+pub fn without_parent(resource: u32, permissions: u32) -> Cap
+    ensures { λ r. ⌜ r ≡ parentless resource permissions ⌝ }
+{
+    Cap {
+        resource,
+        permissions,
+        parent: 0,
+        depth: 0,
+    }
 }
 
 // What a place holds.

@@ -12,8 +12,8 @@ use Rattle.interface.specs.Places.{Tables}
 use Rattle.interface.specs.Verdicts.{Call, CALL}
 use Rattle.interface.specs.Journal.{bodyWord, recordedCall}
 use Rattle.interface.proofs.TableLaws.{length-listed}
-use Rattle.kernel.specs.Promises.{callOf, Outcome, outcome}
-use Rattle.playback.specs.Sequences.{Played, played}
+use Rattle.kernel.specs.Promises.{callOf, Outcome, outcome, Answered, answered}
+use Rattle.kernel.proofs.AnswerLaws.{answers}
 
 -- a CALL's recorded blocks have their length
 pub source-length : (body source : List ℕ) → source ≡ recordedCall CALL body .source → blockWords ≡ length source
@@ -73,12 +73,12 @@ module _ {kind caller first second third fourth fifth sixth : ℕ} {body source 
   module _ (here : Tables) {after : Tables} {block : List ℕ} {reply : Reply}
       (ran : record { reply = reply; tables = after; block = block } ≡ outcome here (callOf kind caller first second third fourth fifth sixth source target)) where
     plays : callOf kind caller first second third fourth fifth sixth source target ≡ recordedCall kind body →
-        record { reply = reply; tables = after } ≡ played here (recordedCall kind body)
-    plays same = ap (λ (o : Outcome). record { reply = o .reply; tables = o .tables }) ran ∙ ap (played here) same
+        record { reply = reply; tables = after } ≡ answered here (recordedCall kind body)
+    plays same = answers here after reply block (callOf kind caller first second third fourth fifth sixth source target) ran ∙ ap (answered here) same
 
     pub plays-call : kind ≡ CALL → source ≡ recordedCall CALL body .source → target ≡ recordedCall CALL body .target →
-        record { reply = reply; tables = after } ≡ played here (recordedCall kind body)
+        record { reply = reply; tables = after } ≡ answered here (recordedCall kind body)
     plays-call is-call is-source is-target = plays (call-so is-call is-source is-target)
 
-    pub plays-other : (kind ≡ CALL → ⊥) → source ≡ [] → target ≡ [] → record { reply = reply; tables = after } ≡ played here (recordedCall kind body)
+    pub plays-other : (kind ≡ CALL → ⊥) → source ≡ [] → target ≡ [] → record { reply = reply; tables = after } ≡ answered here (recordedCall kind body)
     plays-other other is-source is-target = plays (other-so other is-source is-target)

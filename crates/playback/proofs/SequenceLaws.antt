@@ -26,7 +26,7 @@ use Rattle.playback.specs.declared.Found.{Found}
 use Rattle.playback.specs.declared.Found.the-variants.{Nothing, Unknown, Short, Whole}
 use Rattle.playback.specs.declared.Ran.{Ran}
 use Rattle.playback.specs.declared.Ran.the-variants.{Records, OtherLengths}
-use Rattle.playback.specs.Sequences.{foundIn, recordedFrom, recorded, Played, played, Sequence, sequence}
+use Rattle.playback.specs.Sequences.{foundIn, recordedFrom, recorded, Sequence, sequence}
 
 -- as many records as there are bytes are enough
 enough : (m n : ℕ) (bytes : List ℕ) → length bytes ≤ m → length bytes ≤ n → recordedFrom m bytes ≡ recordedFrom n bytes

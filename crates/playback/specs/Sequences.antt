@@ -4,12 +4,9 @@ use mathlib.Core.Bool.{_||_}
 use mathlib.Core.List.{List, [], _∷_}
 use lib.Dec.{eqb, ltb}
 use lib.ListN.{length, take, drop}
-use Rattle.descriptor.specs.declared.Reply.{Reply}
 use Rattle.interface.specs.Basics.{if_then_else_}
 use Rattle.interface.specs.Places.{Tables, sized, tablesOf}
 use Rattle.interface.specs.Boot.{boot}
-use Rattle.interface.specs.Verdicts.{Call}
-use Rattle.interface.specs.Rules.{hypercallReply, hypercallTables}
 use Rattle.interface.specs.History.{Event, hypercalls}
 use Rattle.interface.specs.Demand.{tablesAfterAll}
 use Rattle.interface.specs.Journal.{bodyBytes, recordedCall}
@@ -36,14 +33,6 @@ recordedFrom (suc most) (kind ∷ rest) =
 
 abbrev pub recorded : List ℕ → List Event
 recorded journal = recordedFrom (length journal) journal
-
--- what playing one record comes to: the reply and the tables after it
-pub record Played : Type 0 where
-  pub reply : Reply
-  pub tables : Tables
-
-abbrev pub played : Tables → Call → Played
-played tables c = record { reply = hypercallReply tables c; tables = hypercallTables tables c }
 
 -- what running a journal comes to: the number of its records and the tables that they leave in turn, from boot's; tables of other lengths stay
 pub record Sequence : Type 0 where

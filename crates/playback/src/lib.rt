@@ -8,7 +8,8 @@ ghost use Rattle.interface.specs.Journal.{recordedCall};
 ghost use Rattle.interface.specs.History.{bootHistory, toldAll};
 ghost use Rattle.interface.specs.Demand.{LentOut};
 ghost use Rattle.capabilities.specs.Callers.{tables};
-ghost use Rattle.playback.specs.Sequences.{foundIn, recorded, Played, played, Sequence, sequence};
+ghost use Rattle.kernel.specs.Promises.{Answered, answered};
+ghost use Rattle.playback.specs.Sequences.{foundIn, recorded, Sequence, sequence};
 use descriptor::Reply;
 use journal::records;
 use words::sizes;
@@ -47,7 +48,7 @@ pub fn record_at(journal: &[u8], at: usize) -> Found
 
 // Plays a record: its hypercall on two tables. A CALL's blocks are the record's.
 pub fn play(kind: u8, body: &[u8], places: &mut [u32], objects: &mut [u32]) -> Reply
-    ensures { λ r. ⌜ record { reply = r; tables = tables (now (places .exit)) (now (objects .exit)) } ≡ played (tables (now (places .entry)) (now (objects .entry))) (recordedCall kind (now (body .entry))) ⌝ }
+    ensures { λ r. ⌜ record { reply = r; tables = tables (now (places .exit)) (now (objects .exit)) } ≡ answered (tables (now (places .entry)) (now (objects .entry))) (recordedCall kind (now (body .entry))) ⌝ }
 {
     let mut source = [0u32; sizes::BLOCK_WORDS];
     let mut target = [0u32; sizes::BLOCK_WORDS];

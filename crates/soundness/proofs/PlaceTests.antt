@@ -21,26 +21,6 @@ use Rattle.interface.proofs.PlaceFacts.{same-cap, some-live, more-live}
 use Rattle.soundness.specs.Keeping.{parentFits, lineageKeeps, placeKeeps, Numbered, Kept, Around}
 use Rattle.soundness.proofs.PdLaws.{home-counted}
 
--- the greatest permissions
-pub greatest-unknown : (kind : ℕ) → (kind ≡ 1 → ⊥) → (kind ≡ 2 → ⊥) → (kind ≡ 3 → ⊥) → (kind ≡ 4 → ⊥) → (kind ≡ 5 → ⊥) → 0 ≡ greatestOf kind
-greatest-unknown zero a b d e f = refl
-greatest-unknown (suc zero) a b d e f = absurd (a refl)
-greatest-unknown (suc (suc zero)) a b d e f = absurd (b refl)
-greatest-unknown (suc (suc (suc zero))) a b d e f = absurd (d refl)
-greatest-unknown (suc (suc (suc (suc zero)))) a b d e f = absurd (e refl)
-greatest-unknown (suc (suc (suc (suc (suc zero))))) a b d e f = absurd (f refl)
-greatest-unknown (suc (suc (suc (suc (suc (suc n)))))) a b d e f = refl
-
-module _ (space kind : ℕ) where
-  pub greatest-memory : space ≡ memory → 7 ≡ greatest space kind
-  greatest-memory e = rw e
-
-  pub greatest-io : space ≡ io → 1 ≡ greatest space kind
-  greatest-io e = rw e
-
-  pub greatest-object : (most : ℕ) → (space ≡ memory → ⊥) → (space ≡ io → ⊥) → most ≡ greatestOf kind → most ≡ greatest space kind
-  greatest-object most m i h = rw (ne-eqb space memory m, ne-eqb space io i) h
-
 -- the space of a place from its number alone
 space-at : (domain space selector : ℕ) → space < spaces → selector < selectors space →
     placeOf domain space selector / selectors space % spaces ≡ space

@@ -6,8 +6,8 @@ ghost use Rattle.words.specs.Sizes.{places, records};
 ghost use Rattle.interface.specs.Places.{Tables, objectTableWords, placeTableWords, shown};
 ghost use Rattle.interface.specs.Damage.{live-place};
 ghost use Rattle.soundness.specs.Keeping.{recordsIn, lowestFailing, firstRule, lastRule, ruleOf};
-use crate::places;
-use crate::records;
+use crate::place_rules;
+use crate::record_rules;
 use words::sizes;
 
 // The numbers of the first rule after that of lengths, and of the last.
@@ -21,18 +21,18 @@ fn record_keeps_rule(rule: u32, objects: &[u32], number: u32) -> bool
     ensures { λ r. ⌜ r ≡ ruleOf rule .record-keeps (recordsIn (now (objects .entry))) number ⌝ }
 {
     match rule {
-        2 => records::fixed_keeps(objects, number),
-        3 => records::interrupt_keeps(objects, number),
-        4 => records::unnamed_keeps(objects, number),
-        5 => records::used_first_keeps(objects, number),
-        6 => records::pd_keeps(objects, number, records::pds_below(objects, number)),
-        7 => records::ec_keeps(
+        2 => record_rules::fixed_keeps(objects, number),
+        3 => record_rules::interrupt_keeps(objects, number),
+        4 => record_rules::unnamed_keeps(objects, number),
+        5 => record_rules::used_first_keeps(objects, number),
+        6 => record_rules::pd_keeps(objects, number, record_rules::pds_below(objects, number)),
+        7 => record_rules::ec_keeps(
             objects,
             number,
-            records::has_pd(objects, records::word_of(objects, number, 1)),
+            record_rules::has_pd(objects, record_rules::word_of(objects, number, 1)),
         ),
-        8 => records::sc_keeps(objects, number),
-        9 => records::pt_keeps(objects, number),
+        8 => record_rules::sc_keeps(objects, number),
+        9 => record_rules::pt_keeps(objects, number),
         _ => true,
     }
 }
@@ -42,13 +42,20 @@ fn live_or_null(table: &[u32], objects: &[u32], place: u32) -> bool
     requires { ⌜ (length (now table) ≡ placeTableWords) × (length (now objects) ≡ objectTableWords) × (place < places) ⌝ }
     ensures { λ r. ⌜ r ≡ live-place (shown (record { places = now (table .entry); objects = now (objects .entry) })) place ⌝ }
 {
-    let cap = places::cap_at(table, place);
+    let cap = place_rules::cap_at(table, place);
     if cap.permissions == 0 {
         return true;
     }
     let domain = place / sizes::STRIDE;
-    let home = (domain == 0) | records::has_pd(objects, domain);
-    places::live_keeps(table, objects, place, places::space_of(place), home, cap)
+    let home = (domain == 0) | record_rules::has_pd(objects, domain);
+    place_rules::live_keeps(
+        table,
+        objects,
+        place,
+        place_rules::space_of(place),
+        home,
+        cap,
+    )
 }
 
 // Whether a place keeps a rule.
@@ -57,10 +64,10 @@ fn place_keeps_rule(rule: u32, table: &[u32], objects: &[u32], place: u32) -> bo
     ensures { λ r. ⌜ r ≡ ruleOf rule .place-keeps (shown (record { places = now (table .entry); objects = now (objects .entry) })) place ⌝ }
 {
     match rule {
-        2 => places::fixed_keeps(table, place),
-        10 => places::null_keeps(places::cap_at(table, place)),
+        2 => place_rules::fixed_keeps(table, place),
+        10 => place_rules::null_keeps(place_rules::cap_at(table, place)),
         11 => live_or_null(table, objects, place),
-        12 => places::cap_at(table, place).depth <= sizes::GREATEST_DEPTH,
+        12 => place_rules::cap_at(table, place).depth <= sizes::GREATEST_DEPTH,
         _ => true,
     }
 }

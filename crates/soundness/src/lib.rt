@@ -1,51 +1,39 @@
 // The damage test: whether tables are sound, in one pass over the places, and which rule is the first that they break.
 ghost use mathlib.Core.Path.{_≡_};
-ghost use Rattle.interface.specs.Places.{Tables, sized};
+ghost use Rattle.interface.specs.Places.{Tables};
 ghost use Rattle.interface.specs.Damage.{sound, fault};
 use descriptor::Fault;
 use words::sizes;
 
 mod faults;
-mod places;
-mod records;
-
-// The words of the two tables.
-const PLACE_TABLE_WORDS: usize = 6144;
-
-const OBJECT_TABLE_WORDS: usize = 320;
-
-// Whether both tables have their lengths.
-fn are_sized(places: &[u32], objects: &[u32]) -> bool
-    ensures { λ r. ⌜ r ≡ sized (record { places = now (places .entry); objects = now (objects .entry) }) ⌝ }
-{
-    (places.len() == PLACE_TABLE_WORDS) & (objects.len() == OBJECT_TABLE_WORDS)
-}
+mod place_rules;
+mod record_rules;
 
 // Whether two tables are sound.
 pub fn is_sound(places: &[u32], objects: &[u32]) -> bool
     ensures { λ r. ⌜ r ≡ sound (record { places = now (places .entry); objects = now (objects .entry) }) ⌝ }
 {
-    if !are_sized(places, objects) {
+    if !boot::are_sized(places, objects) {
         return false;
     }
-    if !records::pds_keep(objects) {
+    if !record_rules::pds_keep(objects) {
         return false;
     }
-    let pds = records::pds_below(objects, sizes::RECORDS);
-    if !records::records_keep(objects, pds) {
+    let pds = record_rules::pds_below(objects, sizes::RECORDS);
+    if !record_rules::records_keep(objects, pds) {
         return false;
     }
-    if !places::hypervisor_keeps(places) {
+    if !place_rules::hypervisor_keeps(places) {
         return false;
     }
-    places::places_keep(places, objects, pds)
+    place_rules::places_keep(places, objects, pds)
 }
 
 // The first rule that two tables break, and the lowest record or else the lowest place that breaks it.
 pub fn first_fault(places: &[u32], objects: &[u32]) -> Fault
     ensures { λ r. ⌜ r ≡ fault (record { places = now (places .entry); objects = now (objects .entry) }) ⌝ }
 {
-    if !are_sized(places, objects) {
+    if !boot::are_sized(places, objects) {
         return Fault::Lengths;
     }
     let mut rule: u32 = faults::FIRST_RULE;

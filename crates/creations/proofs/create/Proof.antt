@@ -13,8 +13,11 @@ object-place-requires c κs = search needs
 number-requires : tie.Need-number-requires
 number-requires c κs = search needs
 
-greatest-requires : tie.Need-greatest-requires
-greatest-requires c κs = search needs
+greatest-of-requires : tie.Need-greatest-of-requires
+greatest-of-requires c κs = search needs
+
+without-parent-requires : tie.Need-without-parent-requires
+without-parent-requires c κs = search needs
 
 store-requires : tie.Need-store-requires
 store-requires c κs = search needs
@@ -35,7 +38,8 @@ create-spec =
     make-requires
     object-place-requires
     number-requires
-    greatest-requires
+    greatest-of-requires
+    without-parent-requires
     store-requires
     same-length
     same-length-2

@@ -13,7 +13,8 @@ use Rattle.interface.specs.Places.{sized, tablesOf}
 use Rattle.interface.specs.Boot.{boot}
 use Rattle.capabilities.specs.Callers.{tables}
 use Rattle.playback.specs.declared.Found.the-variants.{Whole}
-use Rattle.playback.specs.Sequences.{foundIn, recorded, Played}
+use Rattle.kernel.specs.Promises.{Answered}
+use Rattle.playback.specs.Sequences.{foundIn, recorded}
 use Rattle.playback.proofs.Found
 use Rattle.playback.proofs.SequenceLaws.{Reached, reached-start, reached-next, reached-end, whole-inside, none-recorded, past-recorded, boot-refused, boot-done, sequence-refused, sequence-done, sequence-lent}
 use Rattle.playback.proofs.run.Statement.{statement}
@@ -112,7 +113,7 @@ loop-again c = (
   search needs,
   ends (c .before .before .before .before .before .before .before .before),
   omega (arith, ends (c .before .before .before .before .before .before .before .before)),
-  reached-next (now (c .before .before .before .before .before .before .before .before .before .before .before .before .before .before .before .before .before .before .before .before .before .before .before .before .before .before .args .journal)) _ _ _ _ _ _ (c .before .before .before .before .before .before .before .before .before .before .before .before .before .loop .inv .4) (found (c .before .before .before .before .before .before .before .before)) (ap (λ (p : Played). p .tables) (c .before .before .before .before .play .ensures)),
+  reached-next (now (c .before .before .before .before .before .before .before .before .before .before .before .before .before .before .before .before .before .before .before .before .before .before .before .before .before .before .args .journal)) _ _ _ _ _ _ (c .before .before .before .before .before .before .before .before .before .before .before .before .before .loop .inv .4) (found (c .before .before .before .before .before .before .before .before)) (ap (λ (p : Answered). p .tables) (c .before .before .before .before .play .ensures)),
 )
 
 same-length-5 : tie.Need-same-length-5 Inv-loop μ-loop

@@ -1,6 +1,6 @@
 -- The reply and the tables are those of the hypercall, and the line is that of the reply.
 use mathlib.Core.Path.{ap}
-use Rattle.playback.specs.Sequences.{Played}
+use Rattle.kernel.specs.Promises.{Answered}
 use borrow.Author.Needs.{needs}
 use Rattle.replay.proofs.replay_record.Statement.{statement}
 use Rattle.replay.proofs.replay_record.Tie as tie
@@ -29,8 +29,8 @@ same-length-3 c = search needs
 returns : tie.Need-returns
 returns c = let answered = c .before .before .before .before in
     let playing = answered .before .before .before .before .before .before .play .ensures in
-    let is-reply = ap (λ (p : Played). p .reply) playing in (
-      ap (λ (p : Played). p .tables) playing,
+    let is-reply = ap (λ (p : Answered). p .reply) playing in (
+      ap (λ (p : Answered). p .tables) playing,
       rw (← is-reply, ← answered .before .status .ensures, ← answered .answer .ensures) (c .before .before .add-line .ensures),
     )
 

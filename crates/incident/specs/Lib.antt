@@ -1,0 +1,2 @@
+-- What the contracts of the story's hypercalls cite.
+pub mod Story

@@ -1,0 +1,42 @@
+-- The tests are the definition's.
+use borrow.Author.Needs.{needs}
+use Rattle.soundness.proofs.PlaceTests.{parent-past, parent-so}
+use Rattle.soundness.proofs.place_rules.parent_fits.Statement.{statement}
+use Rattle.soundness.proofs.place_rules.parent_fits.Tie as tie
+
+returns : tie.Need-returns
+returns c = search (parent-past, needs)
+
+cap-at-requires : tie.Need-cap-at-requires
+cap-at-requires c κs = search needs
+
+is-of-space-requires : tie.Need-is-of-space-requires
+is-of-space-requires c κs = search needs
+
+is-within-requires : tie.Need-is-within-requires
+is-within-requires c κs = search needs
+
+cast-result : tie.Need-cast-result
+cast-result c = search needs
+
+add-result : tie.Need-add-result
+add-result c = search needs
+
+cast-result-2 : tie.Need-cast-result-2
+cast-result-2 c = search needs
+
+returns-2 : tie.Need-returns-2
+returns-2 c = search (parent-so, needs)
+
+pub parent-fits-spec : {M : Type 1} → statement M
+parent-fits-spec =
+    tie.close
+    (tie.spec
+    returns
+    cap-at-requires
+    is-of-space-requires
+    is-within-requires
+    cast-result
+    add-result
+    cast-result-2
+    returns-2)

@@ -1,0 +1,50 @@
+-- The ways through the test are the definition's.
+use native.Mathlib.Omega.{arith}
+use borrow.Author.Needs.{needs}
+use Rattle.words.proofs.PlaceLaws.{space-small}
+use Rattle.soundness.proofs.QuickLaws.{some-place, quick-null, root-at-home, child-at-home}
+use Rattle.soundness.proofs.place_rules.quick_keeps.Statement.{statement}
+use Rattle.soundness.proofs.place_rules.quick_keeps.Tie as tie
+
+cap-at-requires : tie.Need-cap-at-requires
+cap-at-requires c κs = search needs
+
+without-parent-requires : tie.Need-without-parent-requires
+without-parent-requires c κs = search needs
+
+is-same-requires : tie.Need-is-same-requires
+is-same-requires c κs = search needs
+
+returns : tie.Need-returns
+returns c = search (quick-null, needs)
+
+sub-parent-fits : tie.Need-sub-parent-fits
+sub-parent-fits c = some-place _ (c .before .before .if2 .taken)
+
+parent-fits-requires : tie.Need-parent-fits-requires
+parent-fits-requires c κs =
+    let start = c .before .before .before .before .before .before .before .before .before .before in
+    (start .pre .0 .places-long, omega arith, omega (arith, start .pre .0 .in-space, space-small (start .args .place)))
+
+returns-2 : tie.Need-returns-2
+returns-2 c = search (child-at-home, some-place, needs)
+
+names-object-requires : tie.Need-names-object-requires
+names-object-requires c κs = search needs
+
+returns-3 : tie.Need-returns-3
+returns-3 c = search (root-at-home, needs)
+
+pub quick-keeps-spec : {M : Type 1} → statement M
+quick-keeps-spec =
+    tie.close
+    (tie.spec
+    cap-at-requires
+    without-parent-requires
+    is-same-requires
+    returns
+    sub-parent-fits
+    parent-fits-requires
+    returns-2
+    names-object-requires
+    returns-3)
