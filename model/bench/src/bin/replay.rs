@@ -18,7 +18,7 @@ const MODEL: &str = "--model";
 /// The journal's name in the directory where both programs run.
 const JOURNAL: &str = "journal";
 
-const ROUNDS: u32 = 7;
+const ROUNDS: u32 = 21;
 
 const USAGE: &str = "usage: replay PROGRAM [RECORDS]";
 
