@@ -4,12 +4,18 @@
 // was lent, and the test domain has no port of the shutter's left to lend on.
 ghost use Prim.Native.Nat.{_+_, _%_, _≤_, _<_};
 ghost use mathlib.Core.Path.{_≡_};
+ghost use Rattle.descriptor.specs.Descriptors.{Proper};
 ghost use Rattle.words.specs.Sizes.{io, object, spaces, selectors, places as allPlaces};
+use descriptor::Descriptor;
+use descriptor::FoundPlace;
+use descriptor::Place;
+use descriptor::Range;
+use descriptor::Reading;
 use descriptor::Reply;
+use words::ranges;
 use words::sizes;
 
 mod calls;
-mod text;
 
 // The root's selectors for what it makes: an EC to receive with and a portal to it, then for each domain the PD, an EC and a portal to that EC.
 const RECEIVER: u32 = 40;
@@ -94,6 +100,145 @@ const SHUTTER_PLACE_OF_HYPERVISOR: u32 = sizes::IO_START + SHUTTER_OF_ROOT;
 
 const SHUTTER_PLACE_OF_ROOT: u32 = sizes::STRIDE + SHUTTER_PLACE_OF_HYPERVISOR;
 
+// The status of a call that was done.
+const SUCCESS: u32 = 0;
+
+// Writes a phrase.
+fn say(phrase: &[u8]) {
+    io::write_all(libc::STDOUT_FILENO, phrase);
+}
+
+// Writes a number.
+fn say_number(value: u32) {
+    io::print_decimal(libc::STDOUT_FILENO, value as u64);
+}
+
+// Writes how many there are of a thing.
+fn say_counted(count: u32, thing: &[u8]) {
+    say_number(count);
+    say(b" ");
+    say(thing);
+    if count != 1 {
+        say(b"s");
+    }
+}
+
+// Writes that a call was refused, and its status, and ends the line.
+fn say_refused(reply: Reply) {
+    say(b"REFUSED with status ");
+    say_number(reply.status());
+    say(b"\n");
+}
+
+// Writes whether a call was done, and ends the line.
+fn say_done(reply: Reply) {
+    if reply.status() == SUCCESS {
+        say(b"done\n");
+    } else {
+        say_refused(reply);
+    }
+}
+
+// Writes how many places a message filled, and ends the line.
+fn say_filled(reply: Reply) {
+    if reply.status() == SUCCESS {
+        say_counted(reply.answer(), b"place");
+        say(b" filled\n");
+    } else {
+        say_refused(reply);
+    }
+}
+
+// Writes to how many places a census says that a port is lent, and ends the line.
+fn say_lent(reply: Reply) {
+    if reply.status() == SUCCESS {
+        say(b"lent to ");
+        say_counted(reply.answer(), b"place");
+        say(b"\n");
+    } else {
+        say_refused(reply);
+    }
+}
+
+// Writes how many resources of a space there are.
+fn say_resources(space: u32, count: u32) {
+    match space {
+        sizes::MEMORY => say_counted(count, b"page"),
+        sizes::IO => say_counted(count, b"port"),
+        _ => say_counted(count, b"object"),
+    }
+}
+
+// Writes a range, and ends the line.
+fn say_range(range: Range)
+    requires { ⌜ Proper range ⌝ }
+{
+    say_resources(range.space(), ranges::size(range.order()));
+    say(b" from selector ");
+    say_number(range.at(0).number());
+    say(b" on\n");
+}
+
+// Writes what a descriptor says, and ends the line.
+fn say_reading(word: u32) {
+    match Descriptor::from_word(word).read() {
+        Reading::Null => say(b"nothing\n"),
+        Reading::Malformed => say(b"NO RANGE\n"),
+        Reading::Good(found) => say_range(found),
+    }
+}
+
+// Writes what a LOOKUP found, and ends the line.
+fn say_found(reply: Reply) {
+    if reply.status() == SUCCESS {
+        say_reading(reply.answer());
+    } else {
+        say_refused(reply);
+    }
+}
+
+// Writes a domain's number and what it is for.
+fn say_domain(domain: u32) {
+    say(b"domain ");
+    say_number(domain);
+    match domain {
+        0 => say(b" (hypervisor)"),
+        1 => say(b" (root)"),
+        2 => say(b" (operating)"),
+        3 => say(b" (service)"),
+        4 => say(b" (test)"),
+        5 => say(b" (spare)"),
+        _ => say(b" (UNKNOWN)"),
+    }
+}
+
+// Writes the name of a space.
+fn say_space(space: u32) {
+    match space {
+        sizes::MEMORY => say(b"memory"),
+        sizes::IO => say(b"I/O"),
+        _ => say(b"object"),
+    }
+}
+
+// Writes a selector of a space.
+fn say_selector(space: u32, selector: u32) {
+    say_space(space);
+    say(b" selector ");
+    say_number(selector);
+}
+
+// Writes where a place is: its domain, space and selector.
+fn say_place(word: u32) {
+    let FoundPlace::At(place) = Place::found(word) else {
+        say(b"NO PLACE");
+        return;
+    };
+    say_domain(place.domain());
+    say(b", ");
+    say_selector(place.space(), place.selector().number());
+}
+
 // The descriptor of the shutter's ports, where a domain has them.
 fn shutter(first: u32) -> u32
     requires { ⌜ (first % 4 ≡ 0) × (first < selectors io) ⌝ }
@@ -110,32 +255,32 @@ fn one(space: u32, selector: u32) -> u32
 
 // Starts the machine, and makes an EC through which the root can receive from the hypervisor.
 fn start(places: &mut [u32], objects: &mut [u32]) {
-    text::say(b"The machine boots: ");
-    text::done(kernel::boot(places, objects));
-    text::say(b"The root makes an EC to receive with: ");
-    text::done(calls::create_own_ec(RECEIVER, places, objects));
-    text::say(b"The root makes a portal to it: ");
-    text::done(calls::create_pt(TO_RECEIVER, RECEIVER, places, objects));
+    say(b"The machine boots: ");
+    say_done(kernel::boot(places, objects));
+    say(b"The root makes an EC to receive with: ");
+    say_done(calls::create_own_ec(RECEIVER, places, objects));
+    say(b"The root makes a portal to it: ");
+    say_done(calls::create_pt(TO_RECEIVER, RECEIVER, places, objects));
 }
 
 // Makes a domain, an EC in it and a portal to that EC.
 fn make_domain(pd: u32, ec: u32, portal: u32, places: &mut [u32], objects: &mut [u32]) {
-    text::done(calls::create_pd(pd, places, objects));
-    text::say(b"  an EC in it: ");
-    text::done(calls::create_ec(ec, pd, places, objects));
-    text::say(b"  a portal to that: ");
-    text::done(calls::create_pt(portal, ec, places, objects));
+    say_done(calls::create_pd(pd, places, objects));
+    say(b"  an EC in it: ");
+    say_done(calls::create_ec(ec, pd, places, objects));
+    say(b"  a portal to that: ");
+    say_done(calls::create_pt(portal, ec, places, objects));
 }
 
 // Makes the four domains.
 fn make_domains(places: &mut [u32], objects: &mut [u32]) {
-    text::say(b"The root makes the operating domain: ");
+    say(b"The root makes the operating domain: ");
     make_domain(OPERATING_PD, OPERATING, TO_OPERATING, places, objects);
-    text::say(b"The root makes the service domain: ");
+    say(b"The root makes the service domain: ");
     make_domain(SERVICE_PD, SERVICE, TO_SERVICE, places, objects);
-    text::say(b"The root makes the test domain: ");
+    say(b"The root makes the test domain: ");
     make_domain(TEST_PD, TEST, TO_TEST, places, objects);
-    text::say(b"The root makes the spare domain: ");
+    say(b"The root makes the spare domain: ");
     make_domain(SPARE_PD, SPARE, TO_SPARE, places, objects);
 }
 
@@ -143,7 +288,7 @@ fn make_domains(places: &mut [u32], objects: &mut [u32]) {
 fn connect(portal: u32, next: u32, places: &mut [u32], objects: &mut [u32])
     requires { ⌜ next < selectors object ⌝ }
 {
-    text::filled(calls::lend(
+    say_filled(calls::lend(
         calls::ROOT_EC,
         portal,
         one(sizes::OBJECT, next),
@@ -155,25 +300,25 @@ fn connect(portal: u32, next: u32, places: &mut [u32], objects: &mut [u32])
 
 // Lets each domain call the next one.
 fn connect_domains(places: &mut [u32], objects: &mut [u32]) {
-    text::say(b"The operating domain gets a portal to the service domain: ");
+    say(b"The operating domain gets a portal to the service domain: ");
     connect(TO_OPERATING, TO_SERVICE, places, objects);
-    text::say(b"The service domain gets a portal to the test domain: ");
+    say(b"The service domain gets a portal to the test domain: ");
     connect(TO_SERVICE, TO_TEST, places, objects);
-    text::say(b"The test domain gets a portal to the spare domain: ");
+    say(b"The test domain gets a portal to the spare domain: ");
     connect(TO_TEST, TO_SPARE, places, objects);
 }
 
 // Gives the root the shutter's ports, the lamp's port and the page of the spectrum.
 fn take_resources(places: &mut [u32], objects: &mut [u32]) {
-    text::say(b"The root takes the shutter's ports: ");
+    say(b"The root takes the shutter's ports: ");
     let ports = shutter(SHUTTER_OF_ROOT);
-    text::filled(calls::take(TO_RECEIVER, ports, places, objects));
-    text::say(b"The root takes the lamp's port: ");
+    say_filled(calls::take(TO_RECEIVER, ports, places, objects));
+    say(b"The root takes the lamp's port: ");
     let lamp = one(sizes::IO, LAMP_OF_ROOT);
-    text::filled(calls::take(TO_RECEIVER, lamp, places, objects));
-    text::say(b"The root takes the spectrum's page: ");
+    say_filled(calls::take(TO_RECEIVER, lamp, places, objects));
+    say(b"The root takes the spectrum's page: ");
     let spectrum = one(sizes::MEMORY, SPECTRUM);
-    text::filled(calls::take(TO_RECEIVER, spectrum, places, objects));
+    say_filled(calls::take(TO_RECEIVER, spectrum, places, objects));
 }
 
 // Lends the shutter's ports from the root to the operating domain.
@@ -228,7 +373,7 @@ fn lend_shutter_to_spare(places: &mut [u32], objects: &mut [u32]) -> Reply {
 fn pass_lamp(caller: u32, portal: u32, from: u32, to: u32, places: &mut [u32], objects: &mut [u32])
     requires { ⌜ (from < selectors io) × (to < selectors io) ⌝ }
 {
-    text::filled(calls::lend(
+    say_filled(calls::lend(
         caller,
         portal,
         one(sizes::IO, from),
@@ -240,17 +385,17 @@ fn pass_lamp(caller: u32, portal: u32, from: u32, to: u32, places: &mut [u32], o
 
 // Lends the shutter's ports down to the test domain.
 fn lend_shutter(places: &mut [u32], objects: &mut [u32]) {
-    text::say(b"The root lends the shutter's ports to the operating domain: ");
-    text::filled(lend_shutter_to_operating(places, objects));
-    text::say(b"The operating domain lends them on to the service domain: ");
-    text::filled(lend_shutter_to_service(places, objects));
-    text::say(b"The service domain lends them on to the test domain: ");
-    text::filled(lend_shutter_to_test(places, objects));
+    say(b"The root lends the shutter's ports to the operating domain: ");
+    say_filled(lend_shutter_to_operating(places, objects));
+    say(b"The operating domain lends them on to the service domain: ");
+    say_filled(lend_shutter_to_service(places, objects));
+    say(b"The service domain lends them on to the test domain: ");
+    say_filled(lend_shutter_to_test(places, objects));
 }
 
 // Lends the lamp's port, which has nothing to do with the shutter, to the same domains.
 fn lend_lamp(places: &mut [u32], objects: &mut [u32]) {
-    text::say(b"The root lends the lamp's port to the operating domain: ");
+    say(b"The root lends the lamp's port to the operating domain: ");
     pass_lamp(
         calls::ROOT_EC,
         TO_OPERATING,
@@ -259,7 +404,7 @@ fn lend_lamp(places: &mut [u32], objects: &mut [u32]) {
         places,
         objects,
     );
-    text::say(b"The operating domain lends it on to the service domain: ");
+    say(b"The operating domain lends it on to the service domain: ");
     pass_lamp(
         OPERATING_EC,
         ONWARD,
@@ -268,7 +413,7 @@ fn lend_lamp(places: &mut [u32], objects: &mut [u32]) {
         places,
         objects,
     );
-    text::say(b"The service domain lends it on to the test domain: ");
+    say(b"The service domain lends it on to the test domain: ");
     pass_lamp(
         SERVICE_EC,
         ONWARD,
@@ -281,9 +426,9 @@ fn lend_lamp(places: &mut [u32], objects: &mut [u32]) {
 
 // Lends the page of the spectrum to the operating domain.
 fn lend_spectrum(places: &mut [u32], objects: &mut [u32]) {
-    text::say(b"The root lends the spectrum's page to the operating domain: ");
+    say(b"The root lends the spectrum's page to the operating domain: ");
     let spectrum = one(sizes::MEMORY, SPECTRUM);
-    text::filled(calls::lend(
+    say_filled(calls::lend(
         calls::ROOT_EC,
         TO_OPERATING,
         spectrum,
@@ -300,19 +445,19 @@ fn name_places(list: &[u32], count: u32) {
         if i >= count as usize {
             return;
         }
-        text::say(b"  ");
-        text::place(list[i]);
-        text::say(b"\n");
+        say(b"  ");
+        say_place(list[i]);
+        say(b"\n");
         i += 1;
     }
 }
 
 // Takes the census of a place, and names each place that has its capability from there.
 fn name_heirs(place: u32, places: &[u32], objects: &[u32], list: &mut [u32]) {
-    text::place(place);
-    text::say(b": ");
+    say_place(place);
+    say(b": ");
     let reply = kernel::census(place, places, objects, list);
-    text::lent(reply);
+    say_lent(reply);
     name_places(list, reply.answer());
 }
 
@@ -331,10 +476,10 @@ fn name_shutter_heirs(first: u32, places: &[u32], objects: &[u32], list: &mut [u
 fn look(caller: u32, space: u32, selector: u32, places: &mut [u32], objects: &mut [u32]) -> Reply
     requires { ⌜ (space < spaces) × (selector < selectors space) ⌝ }
 {
-    text::selector(space, selector);
-    text::say(b": ");
+    say_selector(space, selector);
+    say(b": ");
     let reply = calls::look_up(caller, one(space, selector), places, objects);
-    text::found(reply);
+    say_found(reply);
     reply
 }
 
@@ -344,7 +489,7 @@ fn look_for_shutter(caller: u32, first: u32, places: &mut [u32], objects: &mut [
 {
     let mut i: u32 = 0;
     while i < SHUTTER_PORTS {
-        text::say(b"  ");
+        say(b"  ");
         look(caller, sizes::IO, first + i, places, objects);
         i += 1;
     }
@@ -352,17 +497,17 @@ fn look_for_shutter(caller: u32, first: u32, places: &mut [u32], objects: &mut [
 
 // The lookups of the test domain where it has the ports, and beside them, where it has nothing.
 fn look_in_test(places: &mut [u32], objects: &mut [u32]) {
-    text::say(b"The test domain looks at the shutter's ports, ");
+    say(b"The test domain looks at the shutter's ports, ");
     look(TEST_EC, sizes::IO, SHUTTER_OF_TEST, places, objects);
-    text::say(b"The test domain looks right before them, ");
+    say(b"The test domain looks right before them, ");
     look(TEST_EC, sizes::IO, BEFORE_SHUTTER_OF_TEST, places, objects);
-    text::say(b"The test domain looks right after the lamp's port, ");
+    say(b"The test domain looks right after the lamp's port, ");
     look(TEST_EC, sizes::IO, AFTER_LAMP_OF_TEST, places, objects);
 }
 
 // The mistake of the incident: a lookup where the root has nothing, the lamp's port being the nearest, and a revoke of what it answers.
 fn revoke_beside(places: &mut [u32], objects: &mut [u32]) {
-    text::say(b"The root looks right after the lamp's port, ");
+    say(b"The root looks right after the lamp's port, ");
     let reply = look(
         calls::ROOT_EC,
         sizes::IO,
@@ -370,56 +515,56 @@ fn revoke_beside(places: &mut [u32], objects: &mut [u32]) {
         places,
         objects,
     );
-    text::say(b"The root revokes what that answer names: ");
-    text::done(calls::revoke(reply.answer(), places, objects));
+    say(b"The root revokes what that answer names: ");
+    say_done(calls::revoke(reply.answer(), places, objects));
 }
 
 // The right way: a lookup of the shutter's ports, and a revoke of their range.
 fn revoke_shutter(places: &mut [u32], objects: &mut [u32]) {
-    text::say(b"The root looks at the shutter's ports, ");
+    say(b"The root looks at the shutter's ports, ");
     look(calls::ROOT_EC, sizes::IO, SHUTTER_OF_ROOT, places, objects);
-    text::say(b"The root revokes the shutter's ports and keeps its own: ");
-    text::done(calls::revoke(shutter(SHUTTER_OF_ROOT), places, objects));
+    say(b"The root revokes the shutter's ports and keeps its own: ");
+    say_done(calls::revoke(shutter(SHUTTER_OF_ROOT), places, objects));
 }
 
 // What the three domains find where they had the shutter's ports.
 fn look_for_remains(places: &mut [u32], objects: &mut [u32]) {
-    text::say(b"The operating domain looks for the shutter's ports\n");
+    say(b"The operating domain looks for the shutter's ports\n");
     look_for_shutter(OPERATING_EC, SHUTTER_OF_OPERATING, places, objects);
-    text::say(b"The service domain looks for the shutter's ports\n");
+    say(b"The service domain looks for the shutter's ports\n");
     look_for_shutter(SERVICE_EC, SHUTTER_OF_SERVICE, places, objects);
-    text::say(b"The test domain looks for the shutter's ports\n");
+    say(b"The test domain looks for the shutter's ports\n");
     look_for_shutter(TEST_EC, SHUTTER_OF_TEST, places, objects);
 }
 
 // What the three domains find where they have the lamp's port.
 fn look_for_lamp(places: &mut [u32], objects: &mut [u32]) {
-    text::say(b"The operating domain looks at the lamp's port, ");
+    say(b"The operating domain looks at the lamp's port, ");
     look(OPERATING_EC, sizes::IO, LAMP_OF_OPERATING, places, objects);
-    text::say(b"The service domain looks at the lamp's port, ");
+    say(b"The service domain looks at the lamp's port, ");
     look(SERVICE_EC, sizes::IO, LAMP_OF_SERVICE, places, objects);
-    text::say(b"The test domain looks at the lamp's port, ");
+    say(b"The test domain looks at the lamp's port, ");
     look(TEST_EC, sizes::IO, LAMP_OF_TEST, places, objects);
 }
 
 // What must still be there: the root's own ports, and what was lent beside them.
 fn look_for_others(places: &mut [u32], objects: &mut [u32]) {
-    text::say(b"The root looks at the shutter's ports, ");
+    say(b"The root looks at the shutter's ports, ");
     look(calls::ROOT_EC, sizes::IO, SHUTTER_OF_ROOT, places, objects);
     look_for_lamp(places, objects);
-    text::say(b"The operating domain looks at the spectrum's page, ");
+    say(b"The operating domain looks at the spectrum's page, ");
     look(OPERATING_EC, sizes::MEMORY, SPECTRUM, places, objects);
 }
 
 // Every domain that had the shutter's ports tries to lend them on; the lamp's port still goes through the portal of the last.
 fn lend_again(places: &mut [u32], objects: &mut [u32]) {
-    text::say(b"The operating domain lends the shutter's ports on again: ");
-    text::filled(lend_shutter_to_service(places, objects));
-    text::say(b"The service domain lends them on again: ");
-    text::filled(lend_shutter_to_test(places, objects));
-    text::say(b"The test domain lends them on to the spare domain: ");
-    text::filled(lend_shutter_to_spare(places, objects));
-    text::say(b"The test domain lends the lamp's port on to the spare domain: ");
+    say(b"The operating domain lends the shutter's ports on again: ");
+    say_filled(lend_shutter_to_service(places, objects));
+    say(b"The service domain lends them on again: ");
+    say_filled(lend_shutter_to_test(places, objects));
+    say(b"The test domain lends them on to the spare domain: ");
+    say_filled(lend_shutter_to_spare(places, objects));
+    say(b"The test domain lends the lamp's port on to the spare domain: ");
     pass_lamp(
         TEST_EC,
         ONWARD,
@@ -432,7 +577,7 @@ fn lend_again(places: &mut [u32], objects: &mut [u32]) {
 
 // The machine and its domains.
 fn set_up(places: &mut [u32], objects: &mut [u32]) {
-    text::say(b"THE MACHINE AND ITS DOMAINS\n");
+    say(b"THE MACHINE AND ITS DOMAINS\n");
     start(places, objects);
     make_domains(places, objects);
     connect_domains(places, objects);
@@ -440,7 +585,7 @@ fn set_up(places: &mut [u32], objects: &mut [u32]) {
 
 // What the root takes, and what is lent of it.
 fn lending(places: &mut [u32], objects: &mut [u32]) {
-    text::say(b"\nWHAT IS LENT\n");
+    say(b"\nWHAT IS LENT\n");
     take_resources(places, objects);
     lend_shutter(places, objects);
     lend_lamp(places, objects);
@@ -449,9 +594,9 @@ fn lending(places: &mut [u32], objects: &mut [u32]) {
 
 // Who has the shutter's ports, and what the mistake of the incident does here.
 fn mistake(places: &mut [u32], objects: &mut [u32], list: &mut [u32]) {
-    text::say(b"\nWHO HAS THE SHUTTER'S PORTS\n");
+    say(b"\nWHO HAS THE SHUTTER'S PORTS\n");
     name_shutter_heirs(SHUTTER_PLACE_OF_ROOT, places, objects, list);
-    text::say(b"\nA LOOKUP BESIDE THEM, AND A REVOKE OF ITS ANSWER\n");
+    say(b"\nA LOOKUP BESIDE THEM, AND A REVOKE OF ITS ANSWER\n");
     look_in_test(places, objects);
     revoke_beside(places, objects);
     name_shutter_heirs(SHUTTER_PLACE_OF_ROOT, places, objects, list);
@@ -459,9 +604,9 @@ fn mistake(places: &mut [u32], objects: &mut [u32], list: &mut [u32]) {
 
 // The revoke, and what is left after it.
 fn recovery(places: &mut [u32], objects: &mut [u32], list: &mut [u32]) {
-    text::say(b"\nTHE REVOKE OF THE PORTS\n");
+    say(b"\nTHE REVOKE OF THE PORTS\n");
     revoke_shutter(places, objects);
-    text::say(b"\nWHAT IS LEFT\n");
+    say(b"\nWHAT IS LEFT\n");
     name_shutter_heirs(SHUTTER_PLACE_OF_ROOT, places, objects, list);
     look_for_remains(places, objects);
     look_for_others(places, objects);
@@ -469,9 +614,9 @@ fn recovery(places: &mut [u32], objects: &mut [u32], list: &mut [u32]) {
 
 // What the domains can still lend on, and who has the shutter's ports in the end: the census of the hypervisor's places names all.
 fn aftermath(places: &mut [u32], objects: &mut [u32], list: &mut [u32]) {
-    text::say(b"\nLENDING ON WHAT IS LEFT\n");
+    say(b"\nLENDING ON WHAT IS LEFT\n");
     lend_again(places, objects);
-    text::say(b"\nWHO HAS THE SHUTTER'S PORTS NOW\n");
+    say(b"\nWHO HAS THE SHUTTER'S PORTS NOW\n");
     name_shutter_heirs(SHUTTER_PLACE_OF_HYPERVISOR, places, objects, list);
 }
 

@@ -23,14 +23,14 @@ slice-aggregate-say c = search needs
 say-requires : tie.Need-say-requires Inv-loop μ-loop
 say-requires c κs = search needs
 
-mul-place : tie.Need-mul-place Inv-loop μ-loop
-mul-place c = search needs
+mul-say-place : tie.Need-mul-say-place Inv-loop μ-loop
+mul-say-place c = search needs
 
-shared-slice-read-place : tie.Need-shared-slice-read-place Inv-loop μ-loop
-shared-slice-read-place c = search needs
+shared-slice-read-say-place : tie.Need-shared-slice-read-say-place Inv-loop μ-loop
+shared-slice-read-say-place c = search needs
 
-place-requires : tie.Need-place-requires Inv-loop μ-loop
-place-requires c κs = search needs
+say-place-requires : tie.Need-say-place-requires Inv-loop μ-loop
+say-place-requires c κs = search needs
 
 slice-aggregate-say-2 : tie.Need-slice-aggregate-say-2 Inv-loop μ-loop
 slice-aggregate-say-2 c = search needs
@@ -60,9 +60,9 @@ name-places-spec =
     returns
     slice-aggregate-say
     say-requires
-    mul-place
-    shared-slice-read-place
-    place-requires
+    mul-say-place
+    shared-slice-read-say-place
+    say-place-requires
     slice-aggregate-say-2
     say-requires-2
     add-i

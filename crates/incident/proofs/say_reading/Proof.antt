@@ -2,8 +2,8 @@
 use mathlib.Core.Path.{sym, _∙_}
 use Rattle.descriptor.proofs.DescriptorLaws.{good-proper}
 use borrow.Author.Needs.{needs}
-use Rattle.incident.proofs.text.reading.Statement.{statement}
-use Rattle.incident.proofs.text.reading.Tie as tie
+use Rattle.incident.proofs.say_reading.Statement.{statement}
+use Rattle.incident.proofs.say_reading.Tie as tie
 
 from-word-requires : tie.Need-from-word-requires
 from-word-requires c κs = search needs
@@ -32,8 +32,8 @@ say-requires-2 c κs = search needs
 enum-known-found : tie.Need-enum-known-found
 enum-known-found c = search needs
 
-range-requires : tie.Need-range-requires
-range-requires c κs = good-proper _ _ (sym (c .before .before .before .read .ensures) ∙ c .before .found .given .1)
+say-range-requires : tie.Need-say-range-requires
+say-range-requires c κs = good-proper _ _ (sym (c .before .before .before .read .ensures) ∙ c .before .found .given .1)
 
 returns : tie.Need-returns
 returns c = search needs
@@ -44,8 +44,8 @@ returns-2 c = search needs
 returns-3 : tie.Need-returns-3
 returns-3 c = search needs
 
-pub reading-spec : {M : Type 1} → statement M
-reading-spec =
+pub say-reading-spec : {M : Type 1} → statement M
+say-reading-spec =
     tie.close
     (tie.spec
     from-word-requires
@@ -57,7 +57,7 @@ reading-spec =
     slice-aggregate-say-2
     say-requires-2
     enum-known-found
-    range-requires
+    say-range-requires
     returns
     returns-2
     returns-3)
