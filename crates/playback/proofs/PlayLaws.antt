@@ -35,13 +35,12 @@ pub record Read (body : List ℕ) (caller first second third fourth fifth sixth 
   pub is-sixth : sixth ≡ bodyWord body 6
 
 module _ {kind caller first second third fourth fifth sixth : ℕ} {body source target : List ℕ} (words : Read body caller first second third fourth fifth sixth) where
-  -- CALL has its blocks from the record, and any other call has none
-  call-so : kind ≡ CALL → source ≡ recordedCall CALL body .source → target ≡ recordedCall CALL body .target →
+  -- the words read and the record's blocks make its call
+  read-so : source ≡ recordedCall kind body .source → target ≡ recordedCall kind body .target →
       callOf kind caller first second third fourth fifth sixth source target ≡ recordedCall kind body
   unfolding recordedCall
-  call-so is-call is-source is-target =
+  read-so is-source is-target =
       rw (
-        is-call,
         is-source,
         is-target,
         words .is-caller,
@@ -53,22 +52,16 @@ module _ {kind caller first second third fourth fifth sixth : ℕ} {body source 
         words .is-sixth,
       )
 
+  -- CALL has its blocks from the record, and any other call has none
+  call-so : kind ≡ CALL → source ≡ recordedCall CALL body .source → target ≡ recordedCall CALL body .target →
+      callOf kind caller first second third fourth fifth sixth source target ≡ recordedCall kind body
+  call-so is-call is-source is-target =
+      read-so (is-source ∙ ap (λ (k : ℕ). recordedCall k body .source) (sym is-call)) (is-target ∙ ap (λ (k : ℕ). recordedCall k body .target) (sym is-call))
+
   other-so : (kind ≡ CALL → ⊥) → source ≡ [] → target ≡ [] →
       callOf kind caller first second third fourth fifth sixth source target ≡ recordedCall kind body
   unfolding recordedCall
-  other-so other is-source is-target =
-      rw (
-        ne-eqb kind CALL other,
-        is-source,
-        is-target,
-        words .is-caller,
-        words .is-first,
-        words .is-second,
-        words .is-third,
-        words .is-fourth,
-        words .is-fifth,
-        words .is-sixth,
-      )
+  other-so other is-source is-target = read-so (rw (ne-eqb kind CALL other) is-source) (rw (ne-eqb kind CALL other) is-target)
 
   module _ (here : Tables) {after : Tables} {block : List ℕ} {reply : Reply}
       (ran : record { reply = reply; tables = after; block = block } ≡ outcome here (callOf kind caller first second third fourth fifth sixth source target)) where
