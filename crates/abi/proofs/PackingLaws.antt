@@ -11,13 +11,11 @@ use Rattle.descriptor.specs.declared.Reply.{Reply}
 use Rattle.descriptor.specs.declared.Fault.{Fault}
 use Rattle.descriptor.specs.declared.Fault.the-variants.{NoFault, Lengths, AtRecord, AtPlace}
 use Rattle.interface.specs.Basics.{if_then_else_, lowest}
-use Rattle.interface.specs.Places.{State, Tables, sized, shown}
+use Rattle.interface.specs.Places.{State, Tables, sized, shown, tables}
 use Rattle.interface.specs.Damage.{Rule, rulesOfDamage, firstFault, fault}
 use Rattle.interface.specs.Census.{CensusResult}
+use Rattle.interface.specs.Outcomes.{Booted, Outcome}
 use Rattle.interface.proofs.BoolLaws.{cases}
-use Rattle.boot.specs.Booted.{Booted}
-use Rattle.capabilities.specs.Callers.{tables}
-use Rattle.kernel.specs.Promises.{Outcome}
 use Rattle.abi.specs.Packing.{packed, packedFault, Booting, booting, Calling, calling, Counting, counting}
 
 -- the place that a fault names, or 0

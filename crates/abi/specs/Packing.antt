@@ -9,7 +9,7 @@ use Rattle.descriptor.specs.declared.Reply.{Reply}
 use Rattle.interface.specs.Places.{Tables}
 use Rattle.interface.specs.Rules.{bootReply, bootTables}
 use Rattle.interface.specs.Census.{CensusResult}
-use Rattle.kernel.specs.Promises.{Outcome}
+use Rattle.interface.specs.Outcomes.{Outcome}
 
 -- two numbers of 32 bits in one
 abbrev pub joined : ℕ → ℕ → ℕ

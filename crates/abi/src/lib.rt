@@ -2,13 +2,13 @@
 // 32 bits.
 ghost use mathlib.Core.Path.{_≡_};
 ghost use lib.ListN.{length};
+ghost use Rattle.interface.specs.Places.{tables};
 ghost use Rattle.interface.specs.Basics.{if_then_else_};
 ghost use Rattle.interface.specs.Damage.{sound, fault};
 ghost use Rattle.interface.specs.Message.{untypedPart};
 ghost use Rattle.interface.specs.Rules.{bootReply, bootTables};
-ghost use Rattle.interface.specs.Census.{census};
-ghost use Rattle.capabilities.specs.Callers.{tables};
-ghost use Rattle.kernel.specs.Promises.{callOf, outcome};
+ghost use Rattle.interface.specs.Census.{censusOf};
+ghost use Rattle.interface.specs.Outcomes.{callOf, outcome};
 ghost use Rattle.abi.specs.Packing.{joined, packed, packedFault, Booting, booting, Calling, calling, Counting, counting};
 use descriptor::Fault;
 use descriptor::Reply;
@@ -78,7 +78,7 @@ pub extern "C" fn rudozhev_census(
     objects: &[u32],
     list: &mut [u32],
 ) -> u64
-    ensures { λ r. ⌜ record { word = r; list = now (list .exit) } ≡ counting (census (tables (now (places .entry)) (now (objects .entry))) place (now (list .entry))) ⌝ }
+    ensures { λ r. ⌜ record { word = r; list = now (list .exit) } ≡ counting (censusOf (tables (now (places .entry)) (now (objects .entry))) place (now (list .entry))) ⌝ }
 {
     pack(kernel::census(place, places, objects, list))
 }

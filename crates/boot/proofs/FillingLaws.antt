@@ -13,13 +13,13 @@ use Rattle.interface.specs.Basics.{word, put}
 use Rattle.interface.specs.Places.{Cap, placeTableWords, objectTableWords, sized, capAt, objectAt, capTable, recordTable}
 use Rattle.interface.specs.Boot.{bootRecord, bootCap}
 use Rattle.interface.specs.Rules.{bootReply, bootTables}
+use Rattle.interface.specs.Outcomes.{Booted}
 use Rattle.interface.proofs.BoolLaws.{cases, and-left, and-right}
 use Rattle.interface.proofs.PutLaws.{put-same, put-other}
 use Rattle.places.specs.Table.{Sized as SizedPlaces}
 use Rattle.places.proofs.CapTableLaws.{length-cap-table, cap-at-table-below, cap-table-back, cap-table-same}
 use Rattle.objects.specs.Records.{Sized as SizedObjects, fiveWords}
 use Rattle.objects.proofs.RecordTableLaws.{length-record-table, object-at-table, object-at-end, five-words-end, put-record-end, record-table-back, record-table-same}
-use Rattle.boot.specs.Booted.{Booted}
 
 -- a place table whose places below a number hold what they do at boot
 pub record PlacesBelow (number : ℕ) (table : List ℕ) : Type 0 where

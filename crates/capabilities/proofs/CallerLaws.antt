@@ -9,7 +9,7 @@ use borrow.Author.Tests.{eqb-true}
 use Rattle.words.specs.Sizes.{domains, records}
 use Rattle.descriptor.specs.declared.Reply.{Reply}
 use Rattle.descriptor.specs.declared.Reply.the-variants.{Success}
-use Rattle.interface.specs.Places.{Cap, State, domainWord, objectPlace, permitted, placeTableWords, objectTableWords, sized, capAt, objectAt, placeTable, objectTable}
+use Rattle.interface.specs.Places.{Cap, State, domainWord, objectPlace, permitted, placeTableWords, objectTableWords, sized, capAt, objectAt, placeTable, objectTable, tables, view}
 use Rattle.interface.specs.Damage.{soundState, sound}
 use Rattle.interface.specs.Effects.{Effect, run}
 use Rattle.interface.specs.Verdicts.{Call, Verdict, refuse, grant}
@@ -21,7 +21,7 @@ use Rattle.places.specs.Table.{Sized as SizedPlaces}
 use Rattle.places.proofs.CapTableLaws.{cap-table-back}
 use Rattle.objects.specs.Records.{Sized as SizedObjects}
 use Rattle.objects.proofs.RecordTableLaws.{record-table-back}
-use Rattle.capabilities.specs.Callers.{tables, view, Called}
+use Rattle.capabilities.specs.Callers.{Called}
 
 module _ {places objects : List ℕ} {caller : ℕ} (called : Called places objects caller) where
   -- the tables have their lengths

@@ -14,7 +14,7 @@ use Rattle.descriptor.specs.declared.Reply.the-variants.{Success}
 use Rattle.descriptor.specs.Descriptors.{reading}
 use Rattle.descriptor.specs.Descriptors.{kept as keptWord}
 use Rattle.descriptor.proofs.DescriptorLaws.{base-high, reading-kept, good-proper}
-use Rattle.interface.specs.Places.{Cap, State, PD, EC, SC, PT, SM, domainWord, bindScBit, bindPtBit, objectPlace, objectIn, permitted, capAt, objectAt}
+use Rattle.interface.specs.Places.{Cap, State, PD, EC, SC, PT, SM, domainWord, bindScBit, bindPtBit, objectPlace, objectIn, permitted, capAt, objectAt, tables, view}
 use Rattle.interface.specs.Boot.{cpus}
 use Rattle.interface.specs.Damage.{pdsBelow}
 use Rattle.interface.specs.Effects.{Effect}
@@ -23,7 +23,7 @@ use Rattle.interface.specs.Creations.{pdPlace, ecPlace, nextDomain, initialGood
 use Rattle.interface.specs.Rules.{Runs}
 use Rattle.objects.specs.Records.{pdCount, fiveWords}
 use Rattle.objects.proofs.RecordTableLaws.{two-words, four-words}
-use Rattle.capabilities.specs.Callers.{tables, view, Called}
+use Rattle.capabilities.specs.Callers.{Called}
 use Rattle.creations.specs.declared.Creation.{Creation}
 use Rattle.creations.specs.declared.Checked.{Checked}
 use Rattle.creations.specs.declared.Checked.the-variants.{Takes, Refused}

@@ -7,7 +7,7 @@ use Rattle.descriptor.specs.declared.ObjectNumber.{ObjectNumber}
 use Rattle.descriptor.specs.declared.Reply.{Reply}
 use Rattle.descriptor.specs.declared.Reply.the-variants.{Success}
 use Rattle.interface.specs.Basics.{word, put}
-use Rattle.interface.specs.Places.{Cap, State, Tables, PD, kindWord, domainWord, createBit, parentless, greatestOf, objectPlace, capAt, objectAt, capTable, recordTable}
+use Rattle.interface.specs.Places.{Cap, State, Tables, PD, kindWord, domainWord, createBit, parentless, greatestOf, objectPlace, capAt, objectAt, capTable, recordTable, tables, view}
 use Rattle.interface.specs.Effects.{Effect, make, hold, act, run}
 use Rattle.interface.specs.Verdicts.{Call, Verdict, refuse}
 use Rattle.interface.specs.Creations.{newPlace, creation}
@@ -16,7 +16,7 @@ use Rattle.interface.specs.Rules.{Runs}
 use Rattle.interface.proofs.PutLaws.{put-same}
 use Rattle.interface.proofs.TurnLaws.{run-append}
 use Rattle.objects.specs.Records.{fiveWords}
-use Rattle.capabilities.specs.Callers.{tables, view, Called}
+use Rattle.capabilities.specs.Callers.{Called}
 use Rattle.capabilities.proofs.CallerLaws.{named-record, refused-runs, granted-runs}
 use Rattle.creations.specs.declared.Creation.{Creation}
 use Rattle.creations.specs.declared.Checked.{Checked}

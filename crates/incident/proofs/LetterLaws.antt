@@ -5,7 +5,7 @@ use mathlib.Core.List.{List}
 use Rattle.descriptor.specs.declared.Reply.{Reply}
 use Rattle.interface.specs.Places.{Tables}
 use Rattle.interface.specs.Verdicts.{CALL}
-use Rattle.kernel.specs.Promises.{callOf, Outcome, outcome, Answered, answered}
+use Rattle.interface.specs.Outcomes.{callOf, Outcome, outcome, Answered, answered}
 use Rattle.kernel.proofs.AnswerLaws.{answers}
 use Rattle.incident.specs.Story.{itemBlock, letter, windowBlock}
 

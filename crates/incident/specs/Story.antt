@@ -8,7 +8,7 @@ use Rattle.interface.specs.Places.{Tables}
 use Rattle.interface.specs.Message.{delegateWindow, descriptorAt, secondAt}
 use Rattle.interface.specs.Verdicts.{Call, CALL}
 use Rattle.interface.specs.Rules.{hypercallReply, hypercallTables}
-use Rattle.kernel.specs.Promises.{callOf}
+use Rattle.interface.specs.Outcomes.{callOf}
 
 -- the CPU of the story's ECs
 abbrev pub cpu : ℕ

@@ -2,10 +2,10 @@
 ghost use Prim.Native.Nat.{_+_};
 ghost use mathlib.Core.Path.{_≡_};
 ghost use Rattle.descriptor.specs.Descriptors.{Proper, describe};
+ghost use Rattle.interface.specs.Places.{tables};
 ghost use Rattle.interface.specs.Boot.{rootEc, exc};
 ghost use Rattle.interface.specs.Verdicts.{CREATE-PD, CREATE-EC, CREATE-PT, REVOKE, LOOKUP};
-ghost use Rattle.capabilities.specs.Callers.{tables};
-ghost use Rattle.kernel.specs.Promises.{Answered, answered};
+ghost use Rattle.interface.specs.Outcomes.{Answered, answered};
 ghost use Rattle.incident.specs.Story.{cpu, delegate, fromHypervisor, itemBlock, letter, question, windowBlock};
 use descriptor::Descriptor;
 use descriptor::Reply;

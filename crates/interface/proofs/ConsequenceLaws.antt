@@ -25,7 +25,7 @@ use Rattle.interface.specs.Lookup.{lookup}
 use Rattle.interface.specs.Semaphores.{smCtrl}
 use Rattle.interface.specs.PortalCalls.{portalCall}
 use Rattle.interface.specs.Rules.{Built, rule, not-built, hypercall, called, rules, after, judged, hypercallReply, hypercallTables}
-use Rattle.interface.specs.Census.{CensusResult, counted, censusOf, census}
+use Rattle.interface.specs.Census.{CensusResult, counted, censusOf}
 use Rattle.interface.specs.History.{Event, hypercalls, counts}
 use Rattle.interface.specs.Demand.{tablesAfter, tablesAfterAll}
 use Rattle.interface.specs.Consequences.{StaysSound, DamagedExactly, RefusedStays}
@@ -35,7 +35,7 @@ use Rattle.interface.proofs.Soundness.{sound-facts, facts-sound}
 use Rattle.interface.proofs.Steps.{Fits, FitInTurn}
 use Rattle.interface.proofs.RulesFit.{rules-fit}
 use Rattle.interface.proofs.CutLaws.{cut-nothing}
-use Rattle.interface.proofs.TableLaws.{length-listed, word-listed, Ends, tables-sized, shown-tables}
+use Rattle.interface.proofs.TableLaws.{length-listed, word-listed, Ends, tables-sized, shown-tables, state-sound}
 use Rattle.interface.proofs.BootLaws.{boot-sound, boot-past, boot-records, boot-words}
 use Rattle.interface.proofs.DemandLaws.{after-sound}
 
@@ -162,12 +162,6 @@ pub after-ends : (s : State) (c : Call) → Ends s → Ends (after s c)
 unfolding after
 after-ends s c ends = run-ends (effectsOf (rules s c)) s (rules-fit s c) ends
 
--- the tables of a sound state that ends where they do are sound
-state-sound : (s : State) → Ends s → soundState s ≡ true → sound (tablesOf s) ≡ true
-unfolding sound
-state-sound s ends h =
-    both (sized (tablesOf s)) (soundState (shown (tablesOf s))) (tables-sized s) (subst (λ (t : State). soundState t ≡ true) (sym (shown-tables s ends)) h)
-
 pub stays-sound : StaysSound
 unfolding sound tablesAfter hypercallTables
 stays-sound tables (hypercalls c) h =
@@ -228,7 +222,7 @@ one-choice : {A : Type 0} (a b : Bool) (x y : A) → (if a then (if b then x els
 one-choice true b x y = refl
 one-choice false b x y = refl
 
--- a call and a census ask first whether the tables are sound
+-- a call asks first whether the tables are sound
 pub judged-once : (tables : Tables) (c : Call) → judged tables c ≡ (require sound tables else Damaged then called (shown tables) c (hypercall (c .number)))
 unfolding judged rules sound
 judged-once tables c =
@@ -237,11 +231,6 @@ judged-once tables c =
 -- a census of damaged tables
 abbrev pub damagedCensus : List ℕ → CensusResult
 damagedCensus list = record { reply = Damaged; list = list }
-
-pub census-once : (tables : Tables) (place : ℕ) (list : List ℕ) →
-    census tables place list ≡ (if sound tables then counted (shown tables) place list else damagedCensus list)
-unfolding census censusOf sound
-census-once tables place list = one-choice (sized tables) (soundState (shown tables)) (counted (shown tables) place list) (damagedCensus list)
 
 -- of two outcomes, of which the second alone replies DAMAGED, the reply of the chosen one tells the test
 reply-tells : {A : Type 0} (replies : A → Reply) (test : Bool) (x y : A) → (replies x ≡ Damaged → ⊥) → replies y ≡ Damaged →
@@ -268,6 +257,7 @@ unfolding counted
 counted-outcome s place list = search (outcome-choice, outcome-refusal, outcome-success)
 
 pub damaged-exactly : DamagedExactly
+unfolding censusOf
 damaged-exactly =
     record {
       hypercall-damaged =
@@ -277,7 +267,6 @@ damaged-exactly =
           (reply-tells replyOf (sound tables) verdict (refuse Damaged) (called-undamaged (shown tables) c .apart) refl);
       census-damaged =
           λ tables place list.
-          rw (census-once tables place list)
           (reply-tells (λ (result : CensusResult). result .reply) (sound tables) (counted (shown tables) place list) (damagedCensus list)
           (counted-outcome (shown tables) place list .apart) refl);
       never-from-boot = λ events. all-stay-sound events (tablesOf boot) (state-sound boot boot-ends boot-sound);
@@ -299,12 +288,12 @@ tables-stay tables c n =
     (λ (f : sized tables ≡ false). rw f)
 
 pub refused-stays : RefusedStays
+unfolding censusOf
 refused-stays =
     record {
       hypercall-stays = λ tables c n. (tables-stay tables c n, refused-nothing (c .target) (judged tables c) n .1);
       census-stays =
           λ tables place list.
-          rw (census-once tables place list)
           (either-way (λ (result : CensusResult). (statusOf (result .reply) ≡ 0 → ⊥) → result .list ≡ list) (sound tables)
           (counted (shown tables) place list) (damagedCensus list) (counted-outcome (shown tables) place list .stays) (λ n. refl));
     }

@@ -1,13 +1,16 @@
 -- Demand 3, over any events: the history follows the tables from boot on.
-use mathlib.Core.Path.{_≡_, sym, ap, _∙_, subst}
-use mathlib.Core.List.{List, [], _∷_}
+use Prim.Native.Nat.{ℕ}
+use mathlib.Core.Path.{_≡_, refl, sym, ap, _∙_, subst}
+use mathlib.Core.List.{List, [], _∷_, _++_}
 use Rattle.descriptor.proofs.DescriptorLaws.{range-back}
 use Rattle.interface.specs.Places.{State, Tables, tablesOf}
 use Rattle.interface.specs.Boot.{boot}
 use Rattle.interface.specs.Verdicts.{Call, effectsOf}
 use Rattle.interface.specs.Rules.{rules, after, hypercallTables}
 use Rattle.interface.specs.History.{History, Event, hypercalls, counts, told, tell, toldAll, bootHistory}
-use Rattle.interface.specs.Demand.{tablesAfter, tablesAfterAll, LentOut, Demand3}
+use Rattle.interface.specs.Outcomes.{outcome}
+use Rattle.interface.specs.Census.{censusOf}
+use Rattle.interface.specs.Demand.{tablesAfter, tablesAfterAll, LentOut, fromBoot, historyOf, Demand3, GoesOn, ShowsHeirs}
 use Rattle.interface.proofs.Soundness.{Sound, sound-facts}
 use Rattle.interface.proofs.RulesFit.{rules-fit}
 use Rattle.interface.proofs.HistoryLaws.{Valid}
@@ -42,3 +45,31 @@ pub demand-3 : Demand3
 demand-3 events =
     from-here events (tablesOf boot) bootHistory (ap tablesOf (sym (boot-follows .0))) (boot-follows .1)
     (subst Sound (sym (boot-follows .0)) (sound-facts boot boot-sound))
+
+-- events and one more, in turn
+tables-further : (events : List Event) (event : Event) (tables : Tables) →
+    tablesAfterAll tables (events ++ (event ∷ [])) ≡ tablesAfter (tablesAfterAll tables events) event
+unfolding tablesAfterAll
+tables-further [] event tables = refl
+tables-further (first ∷ events) event tables = tables-further events event (tablesAfter tables first)
+
+-- demand 3 at tables that some events from boot left
+lent-out-here : (here : Tables) (events : List Event) → here ≡ fromBoot events → LentOut here (historyOf events)
+lent-out-here here events e = subst (λ (t : Tables). LentOut t (historyOf events)) (sym e) (demand-3 events)
+
+-- one more hypercall, and one more census, after any events from boot
+pub goes-on : (here : Tables) (c : Call) → GoesOn here c (outcome here c)
+unfolding tablesAfter
+goes-on here c =
+    record {
+      next-tables = λ events e. ap (λ (t : Tables). hypercallTables t c) e ∙ sym (tables-further events (hypercalls c) (tablesOf boot));
+      empties-heirs = λ events e place l t revokes. lent-out-here here events e .revoke-exact place l t c revokes;
+    }
+
+pub shows-heirs : (here : Tables) (place : ℕ) (list : List ℕ) → ShowsHeirs here place list (censusOf here place list)
+unfolding tablesAfter
+shows-heirs here place list =
+    record {
+      same-tables = λ events e. e ∙ sym (tables-further events (counts place list) (tablesOf boot));
+      counts-heirs = λ events e l t enough. lent-out-here here events e .census-exact place l t list enough;
+    }

@@ -22,7 +22,7 @@ use Rattle.interface.specs.Effects.{cut, chain, ancestors, among, below,
 use Rattle.interface.specs.Verdicts.{Call, grant, replyOf, blockOf}
 use Rattle.interface.specs.Revoke.{revoke}
 use Rattle.interface.specs.Rules.{hypercallBlock, rule, hypercall, called, rules, after, judged, hypercallReply, hypercallTables}
-use Rattle.interface.specs.Census.{descendants, counted, censusOf, census}
+use Rattle.interface.specs.Census.{descendants, counted, censusOf}
 use Rattle.interface.specs.History.{History, held, origins, told, heldAmong, note, heir, heirs, cameFrom}
 use Rattle.interface.specs.Demand.{wholeMask, RevokesBelow, LentOut}
 use Rattle.interface.proofs.BoolLaws.{cases, and-left, and-right, same-test}
@@ -33,7 +33,7 @@ use Rattle.interface.proofs.PlaceFacts.{live-facts}
 use Rattle.interface.proofs.HistoryLaws.{Valid, latest-none, standing-none, held-none, held-is}
 use Rattle.interface.proofs.CutLaws.{below-told, stripped-none}
 use Rattle.interface.proofs.NoteLaws.{told-live, live-holds, cut-follows}
-use Rattle.interface.proofs.TableLaws.{Ends, tables-sized, shown-cap, shown-tables}
+use Rattle.interface.proofs.TableLaws.{Ends, tables-sized, shown-cap, shown-tables, state-sound}
 
 module _ (h : History) (valid : Valid h) where
   -- what a history shows ends where the tables do
@@ -151,11 +151,12 @@ module _ (h : History) (valid : Valid h) (sound : Sound (told h)) where
   lives-held : (place : ℕ) → place < places → live (capAt (placeTable (told h)) place) ≡ ltb 0 (held h place)
   lives-held place l = rw (cap-of place) (told-live h valid place)
 
-  -- the census of the tables of a state is the state's
-  census-shown : (place : ℕ) (list : List ℕ) → census (tablesOf (told h)) place list ≡ censusOf (told h) place list
-  unfolding census
+  -- the census of the tables of a sound state is the state's
+  census-shown : (place : ℕ) (list : List ℕ) → censusOf (tablesOf (told h)) place list ≡ counted (told h) place list
+  unfolding censusOf
   census-shown place list =
-      rw (tables-sized (told h)) (ap (λ (s : State). censusOf s place list) (shown-tables (told h) (told-ends h valid)))
+      rw (state-sound (told h) (told-ends h valid) (facts-sound (told h) sound))
+      (ap (λ (s : State). counted s place list) (shown-tables (told h) (told-ends h valid)))
 
   found-heirs : (place : ℕ) → live (told h .caps place) ≡ true → descendants (told h .caps) place ≡ heirs h place
   unfolding descendants
@@ -164,11 +165,10 @@ module _ (h : History) (valid : Valid h) (sound : Sound (told h)) where
       gather-same places (below (told h .caps) place 1) (heir h place) (λ q b. below-heir h valid place (one .0) (one .1) q)
 
   census-of : (place : ℕ) → place < places → live (told h .caps place) ≡ true → (list : List ℕ) → length (heirs h place) ≤ length list →
-      censusOf (told h) place list ≡ record { reply = Success (length (heirs h place)); list = heirs h place ++ drop (length (heirs h place)) list }
-  unfolding censusOf counted
+      counted (told h) place list ≡ record { reply = Success (length (heirs h place)); list = heirs h place ++ drop (length (heirs h place)) list }
+  unfolding counted
   census-of place l t list enough =
       rw (
-        facts-sound (told h) sound,
         lt-leb places place l,
         t,
         found-heirs place t,

@@ -1,6 +1,6 @@
 -- Tables and what they show: the tables of a state that ends where the tables do show that state.
 use Prim.Native.Nat.{ℕ, zero, suc, _+_, _*_, _/_, _%_, _≤_, _<_}
-use mathlib.Core.Path.{_≡_, refl, sym, ap₂, _∙_}
+use mathlib.Core.Path.{_≡_, refl, sym, ap₂, _∙_, subst}
 use mathlib.Core.Bool.{true, false}
 use mathlib.Core.List.{[], _∷_}
 use native.Mathlib.Numerals.{add-one}
@@ -12,6 +12,7 @@ use borrow.Author.Tests.{eq-eqb, ltb-true, ltb-false}
 use Rattle.words.specs.Sizes.{places, placeWords, records, recordWords}
 use Rattle.interface.specs.Basics.{word, listed}
 use Rattle.interface.specs.Places.{State, nothing, placeTableWords, objectTableWords, sized, capAt, objectAt, shown, capWords, placeTable, objectTable, tablesOf}
+use Rattle.interface.specs.Damage.{soundState, sound}
 use Rattle.interface.proofs.BoolLaws.{cases, both}
 use Rattle.interface.proofs.BelowLaws.{below-suc}
 use Rattle.interface.proofs.NoteLaws.{state-same}
@@ -100,3 +101,9 @@ module _ (s : State) where
 
     pub shown-tables : shown (tablesOf s) ≡ s
     shown-tables = state-same (shown (tablesOf s)) s shown-cap shown-word
+
+-- the tables of a sound state that ends where they do are sound
+pub state-sound : (s : State) → Ends s → soundState s ≡ true → sound (tablesOf s) ≡ true
+unfolding sound
+state-sound s ends h =
+    both (sized (tablesOf s)) (soundState (shown (tablesOf s))) (tables-sized s) (subst (λ (t : State). soundState t ≡ true) (sym (shown-tables s ends)) h)

@@ -7,8 +7,8 @@ use Rattle.words.specs.Sizes.{places}
 use Rattle.descriptor.specs.declared.Reply.{Reply}
 use Rattle.descriptor.specs.declared.Reply.the-variants.{Success, Damaged, BadPar, BadCap, Short}
 use Rattle.interface.specs.Basics.{if_then_else_, gather}
-use Rattle.interface.specs.Places.{Cap, State, Tables, live, sized, shown}
-use Rattle.interface.specs.Damage.{soundState}
+use Rattle.interface.specs.Places.{Cap, State, Tables, live, shown}
+use Rattle.interface.specs.Damage.{sound}
 use Rattle.interface.specs.Effects.{below}
 
 -- the strict descendants of a place, rising by place number
@@ -31,9 +31,6 @@ counted s place list =
     else record { reply = Success (length found); list = found ++ drop (length found) list })
     else record { reply = BadCap; list = list }
 
--- a census on a state, and on tables of any lengths: damage is tested first
-unfoldable pub censusOf : State → ℕ → List ℕ → CensusResult
-censusOf s place list = if soundState s then counted s place list else record { reply = Damaged; list = list }
-
-unfoldable pub census : Tables → ℕ → List ℕ → CensusResult
-census tables place list = if sized tables then censusOf (shown tables) place list else record { reply = Damaged; list = list }
+-- a census on tables of any lengths: damage is tested first
+unfoldable pub censusOf : Tables → ℕ → List ℕ → CensusResult
+censusOf tables place list = if sound tables then counted (shown tables) place list else record { reply = Damaged; list = list }

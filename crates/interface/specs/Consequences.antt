@@ -24,9 +24,9 @@ use Rattle.interface.specs.Creations.{newPlace, freeRecord, nextDomain}
 use Rattle.interface.specs.Lookup.{spaceCaps}
 use Rattle.interface.specs.Message.{delegateWindow, typedCount, descriptorAt, secondAt, delegateBit, hypervisorBit}
 use Rattle.interface.specs.Rules.{rules, after, hypercallReply, hypercallBlock, hypercallTables}
-use Rattle.interface.specs.Census.{census}
+use Rattle.interface.specs.Census.{censusOf}
 use Rattle.interface.specs.History.{Event}
-use Rattle.interface.specs.Demand.{tablesAfter, tablesAfterAll}
+use Rattle.interface.specs.Demand.{tablesAfter, fromBoot}
 
 -- Every event on sound tables leaves sound tables, whatever sound tables they are
 abbrev pub StaysSound : Type 0
@@ -35,15 +35,15 @@ StaysSound = (tables : Tables) (event : Event) → sound tables ≡ true → sou
 -- A call or a census answers DAMAGED exactly where the tables are not sound; so after any events from boot none does
 pub record DamagedExactly : Type 0 where
   pub hypercall-damaged : (tables : Tables) (c : Call) → (hypercallReply tables c ≡ Damaged) ↔ (sound tables ≡ false)
-  pub census-damaged : (tables : Tables) (place : ℕ) (list : List ℕ) → (census tables place list .reply ≡ Damaged) ↔ (sound tables ≡ false)
-  pub never-from-boot : (events : List Event) → sound (tablesAfterAll (tablesOf boot) events) ≡ true
+  pub census-damaged : (tables : Tables) (place : ℕ) (list : List ℕ) → (censusOf tables place list .reply ≡ Damaged) ↔ (sound tables ≡ false)
+  pub never-from-boot : (events : List Event) → sound (fromBoot events) ≡ true
 
 -- A refused event changes no word of tables, block or list
 pub record RefusedStays : Type 0 where
   pub hypercall-stays : (tables : Tables) (c : Call) → (statusOf (hypercallReply tables c) ≡ 0 → ⊥) →
       (hypercallTables tables c ≡ tables) × (hypercallBlock tables c ≡ c .target)
-  pub census-stays : (tables : Tables) (place : ℕ) (list : List ℕ) → (statusOf (census tables place list .reply) ≡ 0 → ⊥) →
-      census tables place list .list ≡ list
+  pub census-stays : (tables : Tables) (place : ℕ) (list : List ℕ) → (statusOf (censusOf tables place list .reply) ≡ 0 → ⊥) →
+      censusOf tables place list .list ≡ list
 
 -- whether a descriptor names nothing: it is null, or the place of its base is
 abbrev pub namesNothing : State → ℕ → Reading → Bool

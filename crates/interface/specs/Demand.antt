@@ -16,7 +16,8 @@ use Rattle.interface.specs.Damage.{isEc}
 use Rattle.interface.specs.Descriptors.{reading}
 use Rattle.interface.specs.Verdicts.{Call, REVOKE}
 use Rattle.interface.specs.Rules.{hypercallReply, hypercallBlock, hypercallTables}
-use Rattle.interface.specs.Census.{census}
+use Rattle.interface.specs.Outcomes.{Outcome}
+use Rattle.interface.specs.Census.{CensusResult, censusOf}
 use Rattle.interface.specs.History.{History, Event, hypercalls, counts, held, told, heir, heirs, bootHistory, toldAll}
 
 -- the tables after an event, and after events in turn, each on the tables that the one before left
@@ -55,7 +56,7 @@ pub record LentOut (tables : Tables) (h : History) : Type 0 where
   pub heirs-rise : (place : ℕ) → rising (heirs h place) ≡ true
   -- the census of a live place, given a word for each heir or more, succeeds with their number; its first words are the heirs, and its others stay
   pub census-exact : (place : ℕ) → place < places → live (capAt (tables .places) place) ≡ true → (list : List ℕ) → length (heirs h place) ≤ length list →
-      census tables place list ≡ record { reply = Success (length (heirs h place)); list = heirs h place ++ drop (length (heirs h place)) list }
+      censusOf tables place list ≡ record { reply = Success (length (heirs h place)); list = heirs h place ++ drop (length (heirs h place)) list }
   -- revoking everything below a live place succeeds, makes exactly the heirs null, and leaves every other place's words, every object and the block alone
   pub revoke-exact : (place : ℕ) → place < places → live (capAt (tables .places) place) ≡ true → (c : Call) → RevokesBelow (shown tables) place c →
       (hypercallReply tables c ≡ Success 0) ×
@@ -63,6 +64,39 @@ pub record LentOut (tables : Tables) (h : History) : Type 0 where
       (hypercallTables tables c .objects ≡ tables .objects) ×
       (hypercallBlock tables c ≡ c .target)
 
+-- the tables that events in turn leave from boot on, and the history that they tell
+abbrev pub fromBoot : List Event → Tables
+fromBoot events = tablesAfterAll (tablesOf boot) events
+
+abbrev pub historyOf : List Event → History
+historyOf events = toldAll bootHistory events
+
 -- Demand 3: after any events from boot
 abbrev pub Demand3 : Type 0
-Demand3 = (events : List Event) → LentOut (tablesAfterAll (tablesOf boot) events) (toldAll bootHistory events)
+Demand3 = (events : List Event) → LentOut (fromBoot events) (historyOf events)
+
+-- What code promises of it, so that a caller who knows the events so far can go on from call to call.
+
+-- a hypercall on the tables that some events from boot left: it leaves those of these events and itself; and where it revokes everything below a live place, it succeeds, makes
+-- exactly that place's heirs null, and leaves every other place's words, every object and the block alone
+pub record GoesOn (here : Tables) (c : Call) (after : Outcome) : Type 0 where
+  pub next-tables : (events : List Event) → here ≡ fromBoot events → after .tables ≡ fromBoot (events ++ (hypercalls c ∷ []))
+  pub empties-heirs : (events : List Event) → here ≡ fromBoot events → (place : ℕ) → place < places → live (capAt (here .places) place) ≡ true →
+      RevokesBelow (shown here) place c →
+      (after .reply ≡ Success 0) ×
+      ((other : ℕ) → other < places →
+      capAt (after .tables .places) other ≡ (if heir (historyOf events) place other then nothing else capAt (here .places) other)) ×
+      (after .tables .objects ≡ here .objects) ×
+      (after .block ≡ c .target)
+
+-- a census on the tables that some events from boot left: they are those of these events and itself; and of a live place, given a word for each heir or more, it succeeds with
+-- the number of that place's heirs, and its list begins with them and goes on as it was
+pub record ShowsHeirs (here : Tables) (place : ℕ) (list : List ℕ) (result : CensusResult) : Type 0 where
+  pub same-tables : (events : List Event) → here ≡ fromBoot events → here ≡ fromBoot (events ++ (counts place list ∷ []))
+  pub counts-heirs : (events : List Event) → here ≡ fromBoot events → place < places → live (capAt (here .places) place) ≡ true →
+      length (heirs (historyOf events) place) ≤ length list →
+      result ≡
+      record {
+        reply = Success (length (heirs (historyOf events) place));
+        list = heirs (historyOf events) place ++ drop (length (heirs (historyOf events) place)) list;
+      }

@@ -13,6 +13,7 @@ pub mod Semaphores
 pub mod Message
 pub mod PortalCalls
 pub mod Rules
+pub mod Outcomes
 pub mod Census
 pub mod History
 pub mod Demand

@@ -149,6 +149,13 @@ objectAt table number index = if ltb index recordWords then word table (recordWo
 abbrev pub shown : Tables → State
 shown tables = record { caps = capAt (tables .places); objects = objectAt (tables .objects) }
 
+-- two lists as tables, and what they show
+abbrev pub tables : List ℕ → List ℕ → Tables
+tables places objects = record { places = places; objects = objects }
+
+abbrev pub view : List ℕ → List ℕ → State
+view places objects = shown (tables places objects)
+
 -- the four words of a capability
 abbrev pub capWords : Cap → List ℕ
 capWords cap = cap .resource ∷ cap .permissions ∷ cap .parent ∷ cap .depth ∷ []

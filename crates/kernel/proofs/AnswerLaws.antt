@@ -16,22 +16,24 @@ use Rattle.descriptor.specs.Numbers.{numbered}
 use Rattle.descriptor.specs.declared.FoundObject.the-variants.{Numbered, Beyond}
 use Rattle.descriptor.proofs.DescriptorLaws.{numbered-so, numbered-inside}
 use Rattle.interface.specs.Basics.{if_then_else_}
-use Rattle.interface.specs.Places.{State, Tables, sized, tablesOf, EC, kindWord, objectAt, capAt, placeTableWords, objectTableWords}
+use Rattle.interface.specs.Places.{State, Tables, sized, tablesOf, EC, kindWord, objectAt, capAt, placeTableWords, objectTableWords, tables, view}
 use Rattle.interface.specs.Damage.{soundState, sound, isEc}
 use Rattle.interface.specs.Effects.{Effect, run}
 use Rattle.interface.specs.Verdicts.{Call, Verdict, refuse, grant, require_else_then_, replyOf, effectsOf, blockOf}
-use Rattle.interface.specs.Rules.{Built, rule, not-built, hypercall, called, judged, after, rules, hypercallReply, hypercallTables, Runs}
-use Rattle.interface.specs.Census.{CensusResult, counted, census}
+use Rattle.interface.specs.Rules.{Built, rule, not-built, hypercall, called, judged, after, rules, hypercallReply, hypercallTables, bootTables, Runs}
+use Rattle.interface.specs.Outcomes.{Outcome, outcome, Answered, answered, Booted}
+use Rattle.interface.specs.Census.{CensusResult, counted, censusOf}
+use Rattle.interface.specs.Demand.{tablesAfterAll, fromBoot, GoesOn, ShowsHeirs}
 use Rattle.interface.proofs.BoolLaws.{cases, and-left, and-right}
-use Rattle.interface.proofs.ConsequenceLaws.{judged-once, refused-stays, census-once}
+use Rattle.interface.proofs.ConsequenceLaws.{judged-once, refused-stays}
+use Rattle.interface.proofs.DemandLaws.{goes-on, shows-heirs}
 use Rattle.interface.proofs.Soundness.{sound-facts}
 use Rattle.tree.specs.Walks.{Linked, placesOnly}
 use Rattle.tree.proofs.LinkLaws.{sound-linked}
-use Rattle.capabilities.specs.Callers.{tables, view, Called}
+use Rattle.capabilities.specs.Callers.{Called}
 use Rattle.kernel.specs.declared.Admitted.{Admitted}
 use Rattle.kernel.specs.declared.Admitted.the-variants.{Ec, Refused}
 use Rattle.kernel.specs.Admission.{hasRule, isBuilt, admission}
-use Rattle.kernel.specs.Promises.{Outcome, outcome, Answered, answered}
 
 -- a caller that is an object number is below the number of records
 pub numbered-small : (caller : ℕ) (number : ObjectNumber) → numbered caller ≡ Numbered number → number .0 < records
@@ -187,13 +189,14 @@ module _ (places objects : List ℕ) (c : Call) (reply : Reply) (e : admission p
 
 -- the census of damaged tables, and that of sound ones
 module _ (places objects : List ℕ) (place : ℕ) (list : List ℕ) where
-  pub census-refused : sound (tables places objects) ≡ false → record { reply = Damaged; list = list } ≡ census (tables places objects) place list
-  census-refused f = rw (census-once, f)
+  pub census-refused : sound (tables places objects) ≡ false → record { reply = Damaged; list = list } ≡ censusOf (tables places objects) place list
+  unfolding censusOf
+  census-refused f = rw f
 
   pub census-counted : sound (tables places objects) ≡ true → (result : CensusResult) → result ≡ counted (placesOnly places) place list →
-      result ≡ census (tables places objects) place list
-  unfolding counted
-  census-counted t result e = e ∙ sym (census-once (tables places objects) place list ∙ (rw t))
+      result ≡ censusOf (tables places objects) place list
+  unfolding counted censusOf
+  census-counted t result e = rw t e
 
 -- sound tables have their lengths, and links that a walk can follow
 module _ (places objects : List ℕ) (t : sound (tables places objects) ≡ true) where
@@ -221,3 +224,16 @@ module _ (places objects : List ℕ) (t : sound (tables places objects) ≡ true
 pub answers : (here after : Tables) (reply : Reply) (block : List ℕ) (c : Call) → record { reply = reply; tables = after; block = block } ≡ outcome here c →
     record { reply = reply; tables = after } ≡ answered here c
 answers here after reply block c ran = ap (λ (o : Outcome). record { reply = o .reply; tables = o .tables }) ran
+
+-- what a hypercall, a census and boot come to, and what that says after any events from boot
+pub going-on : (here : Tables) (c : Call) (after : Outcome) → after ≡ outcome here c → (after ≡ outcome here c) × GoesOn here c after
+going-on here c after e = (e, subst (GoesOn here c) (sym e) (goes-on here c))
+
+pub showing-heirs : (here : Tables) (place : ℕ) (list : List ℕ) (result : CensusResult) → result ≡ censusOf here place list →
+    (result ≡ censusOf here place list) × ShowsHeirs here place list result
+showing-heirs here place list result e = (e, subst (ShowsHeirs here place list) (sym e) (shows-heirs here place list))
+
+pub from-boot : {places objects placesAfter objectsAfter : List ℕ} {reply : Reply} → Booted places objects placesAfter objectsAfter reply →
+    Booted places objects placesAfter objectsAfter reply × (sized (tables places objects) ≡ true → tables placesAfter objectsAfter ≡ fromBoot [])
+unfolding bootTables tablesAfterAll
+from-boot booted = (booted, λ t. booted .leaves ∙ (rw t))

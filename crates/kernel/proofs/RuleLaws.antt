@@ -8,7 +8,7 @@ use native.Mathlib.Omega.{arith}
 use borrow.Author.Tests.{eqb-true, eqb-false, ne-eqb, leb-true, le-leb}
 use Rattle.descriptor.specs.declared.Reply.{Reply}
 use Rattle.interface.specs.Basics.{if_then_else_}
-use Rattle.interface.specs.Places.{State, sized}
+use Rattle.interface.specs.Places.{State, sized, tables, view}
 use Rattle.interface.specs.Damage.{soundState, sound}
 use Rattle.interface.specs.Descriptors.{reading, malformed}
 use Rattle.interface.specs.Effects.{Effect, run}
@@ -21,7 +21,7 @@ use Rattle.interface.specs.PortalCalls.{portalCall}
 use Rattle.interface.specs.Rules.{rule, not-built, hypercall, Runs}
 use Rattle.interface.proofs.BoolLaws.{cases, and-left, and-right, both}
 use Rattle.interface.proofs.ConsequenceLaws.{tables-back}
-use Rattle.capabilities.specs.Callers.{tables, view, Called}
+use Rattle.capabilities.specs.Callers.{Called}
 use Rattle.kernel.specs.Admission.{isBuilt}
 
 -- the rules of the numbers

@@ -3,10 +3,10 @@ use Prim.Native.Nat.{ℕ}
 use mathlib.Core.Bool.{Bool, true, false}
 use mathlib.Core.List.{List}
 use Rattle.descriptor.specs.declared.Reply.the-variants.{Damaged, BadHyp, BadCaller}
+use Rattle.interface.specs.Places.{tables, view}
 use Rattle.interface.specs.Basics.{if_then_else_}
 use Rattle.interface.specs.Damage.{sound, isEc}
 use Rattle.interface.specs.Rules.{Built, rule, not-built, hypercall}
-use Rattle.capabilities.specs.Callers.{tables, view}
 use Rattle.kernel.specs.declared.Admitted.{Admitted}
 use Rattle.kernel.specs.declared.Admitted.the-variants.{Ec, Refused}
 

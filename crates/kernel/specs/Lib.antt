@@ -1,3 +1,2 @@
 -- What the kernel's functions promise.
 pub mod Admission
-pub mod Promises

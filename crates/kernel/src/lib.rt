@@ -1,13 +1,15 @@
 // The kernel's face: boot, the hypercalls, the census and the untyped part of a received message, on lent tables, blocks and lists of any length and content.
 ghost use mathlib.Core.Path.{_≡_};
+ghost use mathlib.Core.Bool.{true};
+ghost use mathlib.Core.List.{[]};
+ghost use Rattle.interface.specs.Places.{tables, sized};
 ghost use Rattle.interface.specs.Verdicts.{Call};
 ghost use Rattle.interface.specs.Message.{untypedPart};
-ghost use Rattle.interface.specs.Census.{CensusResult};
-ghost use Rattle.interface.specs.Census.{census as censusOf};
-ghost use Rattle.boot.specs.Booted.{Booted};
-ghost use Rattle.capabilities.specs.Callers.{tables, Called};
+ghost use Rattle.interface.specs.Outcomes.{callOf, Outcome, outcome, Booted};
+ghost use Rattle.interface.specs.Census.{CensusResult, censusOf};
+ghost use Rattle.interface.specs.Demand.{fromBoot, GoesOn, ShowsHeirs};
+ghost use Rattle.capabilities.specs.Callers.{Called};
 ghost use Rattle.kernel.specs.Admission.{isBuilt, admission};
-ghost use Rattle.kernel.specs.Promises.{callOf, Outcome, outcome};
 use descriptor::FoundObject;
 use descriptor::ObjectNumber;
 use descriptor::Reply;
@@ -122,6 +124,7 @@ pub fn hypercall(
     target: &mut [u32],
 ) -> Reply
     ensures { λ r. ⌜ record { reply = r; tables = tables (now (places .exit)) (now (objects .exit)); block = now (target .exit) } ≡ outcome (tables (now (places .entry)) (now (objects .entry))) (callOf number caller first second third fourth fifth sixth (now (source .entry)) (now (target .entry))) ⌝ }
+    ensures { λ r. ⌜ GoesOn (tables (now (places .entry)) (now (objects .entry))) (callOf number caller first second third fourth fifth sixth (now (source .entry)) (now (target .entry))) (record { reply = r; tables = tables (now (places .exit)) (now (objects .exit)); block = now (target .exit) }) ⌝ }
 {
     let admitted = admit(number, caller, places, objects);
     match admitted {
@@ -146,6 +149,7 @@ pub fn hypercall(
 // Fills two lent tables as they are at boot; tables of other lengths are refused and stay.
 pub fn boot(places: &mut [u32], objects: &mut [u32]) -> Reply
     ensures { λ r. ⌜ Booted (now (places .entry)) (now (objects .entry)) (now (places .exit)) (now (objects .exit)) r ⌝ }
+    ensures { λ r. ⌜ (sized (tables (now (places .entry)) (now (objects .entry))) ≡ true → tables (now (places .exit)) (now (objects .exit)) ≡ fromBoot []) ⌝ }
 {
     boot::boot(places, objects)
 }
@@ -153,6 +157,7 @@ pub fn boot(places: &mut [u32], objects: &mut [u32]) -> Reply
 // The census of a place: its strict descendants in the list, rising, and their number.
 pub fn census(place: u32, places: &[u32], objects: &[u32], list: &mut [u32]) -> Reply
     ensures { λ r. ⌜ record { reply = r; list = now (list .exit) } ≡ censusOf (tables (now (places .entry)) (now (objects .entry))) place (now (list .entry)) ⌝ }
+    ensures { λ r. ⌜ ShowsHeirs (tables (now (places .entry)) (now (objects .entry))) place (now (list .entry)) (record { reply = r; list = now (list .exit) }) ⌝ }
 {
     if !soundness::is_sound(places, objects) {
         return Reply::Damaged;

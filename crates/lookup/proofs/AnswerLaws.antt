@@ -13,10 +13,9 @@ use Rattle.descriptor.specs.declared.Range.{Range}
 use Rattle.descriptor.specs.declared.Reading.the-variants.{Null, Malformed, Good}
 use Rattle.descriptor.specs.declared.Reply.the-variants.{Success, BadPar}
 use Rattle.descriptor.specs.Descriptors.{Proper, describe, reading}
-use Rattle.interface.specs.Places.{Cap, State, live, domainWord, capAt}
+use Rattle.interface.specs.Places.{Cap, State, live, domainWord, capAt, view}
 use Rattle.interface.specs.Verdicts.{Call, replyOf}
 use Rattle.interface.specs.Lookup.{largest, around, found, lookup}
-use Rattle.capabilities.specs.Callers.{view}
 use Rattle.lookup.proofs.SpaceLaws.{rounded-place, largest-space}
 
 -- a range's base in a domain: its place, and what that holds

@@ -11,17 +11,16 @@ use borrow.Author.Tests.{eqb-false, eq-eqb, ne-eqb, lt-ltb, le-ltb, ltb-false}
 use Rattle.descriptor.specs.declared.Reply.{Reply}
 use Rattle.descriptor.specs.Replies.{statusOf}
 use Rattle.interface.specs.Basics.{if_then_else_}
-use Rattle.interface.specs.Places.{Tables, sized, tablesOf}
+use Rattle.interface.specs.Places.{Tables, sized, tablesOf, tables}
 use Rattle.interface.specs.Boot.{boot}
 use Rattle.interface.specs.Verdicts.{Call}
 use Rattle.interface.specs.Rules.{bootReply, bootTables, hypercallTables}
 use Rattle.interface.specs.Journal.{bodyBytes, recordedCall}
 use Rattle.interface.specs.History.{Event, hypercalls, bootHistory, toldAll}
 use Rattle.interface.specs.Demand.{LentOut, tablesAfter, tablesAfterAll}
+use Rattle.interface.specs.Outcomes.{Booted}
 use Rattle.interface.proofs.BoolLaws.{cases}
 use Rattle.interface.proofs.DemandLaws.{demand-3}
-use Rattle.boot.specs.Booted.{Booted}
-use Rattle.capabilities.specs.Callers.{tables}
 use Rattle.playback.specs.declared.Found.{Found}
 use Rattle.playback.specs.declared.Found.the-variants.{Nothing, Unknown, Short, Whole}
 use Rattle.playback.specs.declared.Ran.{Ran}

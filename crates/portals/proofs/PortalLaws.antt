@@ -11,7 +11,7 @@ use Rattle.words.specs.Sizes.{domains, records, blockWords}
 use Rattle.descriptor.specs.declared.Reply.{Reply}
 use Rattle.descriptor.specs.declared.Reply.the-variants.{Success, ComTim, BadCap, BadPar, BadCpu}
 use Rattle.interface.specs.Basics.{word}
-use Rattle.interface.specs.Places.{Cap, State, PT, ecWord, domainWord, cpuWord, callBit, objectPlace, permitted, capAt, objectAt, placeTable, objectTable}
+use Rattle.interface.specs.Places.{Cap, State, PT, ecWord, domainWord, cpuWord, callBit, objectPlace, permitted, capAt, objectAt, placeTable, objectTable, tables, view}
 use Rattle.interface.specs.Damage.{isEc}
 use Rattle.interface.specs.Effects.{run}
 use Rattle.interface.specs.Verdicts.{Call, Verdict, refuse, grant, require_else_then_, blockOf}
@@ -21,7 +21,7 @@ use Rattle.interface.proofs.SoundFacts.{portal-ec, permitted-kind, ec-small, ho
 use Rattle.tree.specs.Walks.{placesOnly}
 use Rattle.transfer.specs.Turns.{Blocks, Transferred}
 use Rattle.transfer.proofs.UnseenLaws.{transferred-seen}
-use Rattle.capabilities.specs.Callers.{tables, view, Called}
+use Rattle.capabilities.specs.Callers.{Called}
 use Rattle.capabilities.proofs.CallerLaws.{called-sound, named-record, objects-kept, refused-runs, granted-runs}
 use Rattle.portals.specs.Carrying.{Carries}
 

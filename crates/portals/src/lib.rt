@@ -1,7 +1,8 @@
 // CALL.
 ghost use mathlib.Core.Path.{_≡_};
+ghost use Rattle.interface.specs.Places.{tables};
 ghost use Rattle.interface.specs.Verdicts.{Call};
-ghost use Rattle.capabilities.specs.Callers.{tables, Called};
+ghost use Rattle.capabilities.specs.Callers.{Called};
 ghost use Rattle.portals.specs.Carrying.{Carries};
 use descriptor::ObjectNumber;
 use descriptor::Reply;

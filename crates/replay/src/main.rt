@@ -2,9 +2,9 @@
 ghost use Prim.Native.Nat.{_-_, _≤_};
 ghost use mathlib.Core.Path.{_≡_};
 ghost use lib.ListN.{length};
+ghost use Rattle.interface.specs.Places.{tables};
 ghost use Rattle.interface.specs.Rules.{hypercallReply, hypercallTables};
 ghost use Rattle.interface.specs.Journal.{recordedCall};
-ghost use Rattle.capabilities.specs.Callers.{tables};
 ghost use Rattle.replay.specs.Buffers.{Inside, fronted, lineStart, Added};
 ghost use Rattle.replay.specs.Records.{lineDone, isUnknown, Replayed, Stopped};
 use journal::lines;

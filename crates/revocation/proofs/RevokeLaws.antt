@@ -14,13 +14,13 @@ use Rattle.descriptor.specs.declared.Range.{Range}
 use Rattle.descriptor.specs.declared.Reading.the-variants.{Null, Malformed, Good}
 use Rattle.descriptor.specs.declared.Reply.the-variants.{Success, BadPar}
 use Rattle.descriptor.specs.Descriptors.{Proper, reading}
-use Rattle.interface.specs.Places.{State, domainWord, capAt, objectAt, capTable}
+use Rattle.interface.specs.Places.{State, domainWord, capAt, objectAt, capTable, tables, view}
 use Rattle.interface.specs.Effects.{cut, cutCaps, act, run}
 use Rattle.interface.specs.Verdicts.{Call, refuse, grant, callerDomain}
 use Rattle.interface.specs.Rules.{Runs}
 use Rattle.interface.specs.Revoke.{revoke}
 use Rattle.tree.specs.Walks.{InSpace}
-use Rattle.capabilities.specs.Callers.{tables, view, Called}
+use Rattle.capabilities.specs.Callers.{Called}
 use Rattle.capabilities.proofs.CallerLaws.{places-kept, objects-kept, refused-runs, granted-runs}
 
 -- a range's mask, and its places in a domain: the first of them and how many they are

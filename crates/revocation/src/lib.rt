@@ -1,9 +1,10 @@
 // REVOKE.
 ghost use mathlib.Core.Path.{_≡_};
+ghost use Rattle.interface.specs.Places.{tables};
 ghost use Rattle.interface.specs.Verdicts.{Call};
 ghost use Rattle.interface.specs.Rules.{Runs};
 ghost use Rattle.interface.specs.Revoke.{revoke as revokeRule};
-ghost use Rattle.capabilities.specs.Callers.{tables, Called};
+ghost use Rattle.capabilities.specs.Callers.{Called};
 use descriptor::Descriptor;
 use descriptor::ObjectNumber;
 use descriptor::Place;

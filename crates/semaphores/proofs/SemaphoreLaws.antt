@@ -12,12 +12,12 @@ use Rattle.words.specs.Sizes.{records}
 use Rattle.descriptor.specs.declared.Reply.{Reply}
 use Rattle.descriptor.specs.declared.Reply.the-variants.{Success, ComTim, BadCap, BadPar}
 use Rattle.interface.specs.Basics.{if_then_else_, put}
-use Rattle.interface.specs.Places.{Cap, SM, domainWord, countWord, objectPlace, permitted, capAt, objectAt, recordTable}
+use Rattle.interface.specs.Places.{Cap, SM, domainWord, countWord, objectPlace, permitted, capAt, objectAt, recordTable, tables, view}
 use Rattle.interface.specs.Effects.{count, act, run}
 use Rattle.interface.specs.Verdicts.{Call, Verdict, grant, require_else_then_}
 use Rattle.interface.specs.Rules.{Runs}
 use Rattle.interface.specs.Semaphores.{up, down, smCtrl}
-use Rattle.capabilities.specs.Callers.{tables, view, Called}
+use Rattle.capabilities.specs.Callers.{Called}
 use Rattle.capabilities.proofs.CallerLaws.{named-record, places-kept, refused-runs, granted-runs}
 
 -- what the function promises, from the tables before to an object table and a reply

@@ -17,7 +17,7 @@ same-length-2 : tie.Need-same-length-2
 same-length-2 c = search needs
 
 returns : tie.Need-returns
-returns c = boots (c .before .before .before .before .before .boot .ensures) (c .pack .ensures)
+returns c = boots (c .before .before .before .before .before .boot .ensures .0) (c .pack .ensures)
 
 pub rudozhev-boot-spec : {M : Type 1} → statement M
 rudozhev-boot-spec =

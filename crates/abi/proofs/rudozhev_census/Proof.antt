@@ -14,7 +14,7 @@ same-length : tie.Need-same-length
 same-length c = search needs
 
 returns : tie.Need-returns
-returns c = counts (c .before .before .before .census .ensures) (c .pack .ensures)
+returns c = counts (c .before .before .before .census .ensures .0) (c .pack .ensures)
 
 pub rudozhev-census-spec : {M : Type 1} → statement M
 rudozhev-census-spec = tie.close (tie.spec census-requires pack-requires same-length returns)

@@ -20,7 +20,7 @@ same-length-3 : tie.Need-same-length-3
 same-length-3 c = search needs
 
 returns : tie.Need-returns
-returns c = calls (c .before .before .before .before .before .before .before .hypercall .ensures) (c .pack .ensures)
+returns c = calls (c .before .before .before .before .before .before .before .hypercall .ensures .0) (c .pack .ensures)
 
 pub rudozhev-hypercall-spec : {M : Type 1} → statement M
 rudozhev-hypercall-spec =

@@ -3,10 +3,10 @@ use Prim.Native.Nat.{ℕ}
 use mathlib.Core.Path.{_≡_}
 use mathlib.Core.List.{List}
 use borrow.Author.Needs.{needs}
+use Rattle.interface.specs.Places.{view}
 use Rattle.interface.specs.Effects.{Effect}
 use Rattle.interface.specs.Verdicts.{Call, callerDomain}
 use Rattle.interface.specs.Creations.{freeRecord}
-use Rattle.capabilities.specs.Callers.{view}
 use Rattle.creations.specs.Creating.{ruleOf}
 use Rattle.creations.proofs.CheckLaws.{GoesOn, ownChecks, room-small, new-live, not-by-pd, goes-on, not-bindable, not-on-cpu, not-good, no-room, has-room}
 use Rattle.creations.proofs.check.Statement.{statement}

@@ -5,8 +5,8 @@ use native.Mathlib.Omega.{arith}
 use denote.Ref.{now}
 use borrow.Author.Needs.{needs}
 use borrow.Author.Tests.{not-true, not-false}
+use Rattle.interface.specs.Places.{tables}
 use Rattle.interface.specs.Damage.{sound}
-use Rattle.capabilities.specs.Callers.{tables}
 use Rattle.kernel.specs.Admission.{isBuilt}
 use Rattle.kernel.proofs.AnswerLaws.{admission-damaged, admission-not-built, admission-beyond, admission-other, admission-found, objects-lengths, numbered-small}
 use Rattle.kernel.proofs.admit.Statement.{statement}

@@ -1,7 +1,7 @@
 -- The census of damaged tables is refused, and that of sound ones is the tree's.
 use mathlib.Core.Path.{_≡_, sym, _∙_}
 use borrow.Author.Tests.{not-true, not-false}
-use Rattle.kernel.proofs.AnswerLaws.{census-refused, census-counted, census-lengths, census-links}
+use Rattle.kernel.proofs.AnswerLaws.{showing-heirs, census-refused, census-counted, census-lengths, census-links}
 use borrow.Author.Needs.{needs}
 use Rattle.kernel.proofs.census.Statement.{statement}
 use Rattle.kernel.proofs.census.Tie as tie
@@ -10,7 +10,7 @@ is-sound-requires : tie.Need-is-sound-requires
 is-sound-requires c κs = search needs
 
 returns : tie.Need-returns
-returns c = census-refused _ _ _ _ (sym (c .before .is-sound .ensures) ∙ not-true _ (c .if1 .taken))
+returns c = showing-heirs _ _ _ _ (census-refused _ _ _ _ (sym (c .before .is-sound .ensures) ∙ not-true _ (c .if1 .taken)))
 
 census-requires : tie.Need-census-requires
 census-requires c κs = (census-lengths _ _ (sym (c .before .before .is-sound .ensures) ∙ not-false _ (c .before .if1 .left)), census-links _ _ (sym (c .before .before .is-sound .ensures) ∙ not-false _ (c .before .if1 .left)))
@@ -19,7 +19,7 @@ same-length : tie.Need-same-length
 same-length c = search needs
 
 returns-2 : tie.Need-returns-2
-returns-2 c = census-counted _ _ _ _ (sym (c .before .before .before .before .before .is-sound .ensures) ∙ not-false _ (c .before .before .before .before .if1 .left)) _ (c .before .before .census .ensures)
+returns-2 c = showing-heirs _ _ _ _ (census-counted _ _ _ _ (sym (c .before .before .before .before .before .is-sound .ensures) ∙ not-false _ (c .before .before .before .before .if1 .left)) _ (c .before .before .census .ensures))
 
 pub census-spec : {M : Type 1} → statement M
 census-spec = tie.close (tie.spec is-sound-requires returns census-requires same-length returns-2)

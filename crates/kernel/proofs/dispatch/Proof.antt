@@ -8,7 +8,7 @@ use Rattle.interface.specs.Creations.{createPd, createEc, createSc, createPt, c
 use Rattle.interface.specs.Revoke.{revoke}
 use Rattle.interface.specs.Lookup.{lookup}
 use Rattle.interface.specs.Semaphores.{smCtrl}
-use Rattle.kernel.specs.Promises.{callOf}
+use Rattle.interface.specs.Outcomes.{callOf}
 use Rattle.kernel.proofs.AnswerLaws.{unbuilt-outcome, ran-outcome}
 use Rattle.kernel.proofs.RuleLaws.{is-call, is-create-pd, is-create-ec, is-create-sc, is-create-pt, is-create-sm, is-revoke, is-lookup, is-sm-ctrl, is-not-built, create-pd-stays, create-ec-stays, create-sc-stays, create-pt-stays, create-sm-stays, revoke-stays, lookup-stays, sm-ctrl-stays, lookup-runs}
 use Rattle.kernel.proofs.dispatch.Statement.{statement}

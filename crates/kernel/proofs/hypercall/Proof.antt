@@ -3,8 +3,8 @@ use mathlib.Core.Path.{_≡_, sym, _∙_}
 use denote.Ref.{now}
 use borrow.Author.Needs.{needs}
 use Rattle.interface.specs.Verdicts.{Call}
-use Rattle.kernel.specs.Promises.{callOf}
-use Rattle.kernel.proofs.AnswerLaws.{not-admitted, admitted-caller, admitted-ec}
+use Rattle.interface.specs.Outcomes.{callOf}
+use Rattle.kernel.proofs.AnswerLaws.{going-on, not-admitted, admitted-caller, admitted-ec}
 use Rattle.kernel.proofs.hypercall.Statement.{statement}
 use Rattle.kernel.proofs.hypercall.Tie as tie
 
@@ -34,7 +34,9 @@ same-length-2 : tie.Need-same-length-2
 same-length-2 c = search needs
 
 returns : tie.Need-returns
-returns c = not-admitted _ _ (callBy (c .before .before .before .before .before .before .before .before .before .before)) _ (sym (c .before .before .before .admit .ensures) ∙ c .before .admitted .given .1)
+returns c =
+    let by = callBy (c .before .before .before .before .before .before .before .before .before .before) in
+    going-on _ by _ (not-admitted _ _ by _ (sym (c .before .before .before .admit .ensures) ∙ c .before .admitted .given .1))
 
 same-length-3 : tie.Need-same-length-3
 same-length-3 c = search needs
@@ -48,7 +50,7 @@ same-length-5 c = search needs
 returns-2 : tie.Need-returns-2
 returns-2 c =
     let same = admitted-caller _ _ _ _ _ (sym (c .before .before .before .before .before .before .before .before .before .before .before .before .before .admit .ensures) ∙ c .before .before .before .before .before .before .before .before .before .before .before .admitted2 .given .1) in
-    rw same at (c .before .before .before .before .before .before .dispatch .ensures)
+    going-on _ _ _ (rw same at (c .before .before .before .before .before .before .dispatch .ensures))
 
 pub hypercall-spec : {M : Type 1} → statement M
 hypercall-spec =

@@ -64,7 +64,7 @@ same-length-2 : tie.Need-same-length-2
 same-length-2 c = search needs
 
 returns : tie.Need-returns
-returns c = plays-call (words (c .before .before .before .before .before .before .before .before .before .before .before .before .before .before .before)) _ (c .before .before .before .before .before .hypercall .ensures) (c .before .before .before .before .before .before .before .before .before .before .before .before .before .before .if1 .taken) (c .before .before .before .before .before .before .before .before .before .before .before .before .source2 .ensures) (c .before .before .before .before .before .before .before .before .before .before .target2 .ensures)
+returns c = plays-call (words (c .before .before .before .before .before .before .before .before .before .before .before .before .before .before .before)) _ (c .before .before .before .before .before .hypercall .ensures .0) (c .before .before .before .before .before .before .before .before .before .before .before .before .before .before .if1 .taken) (c .before .before .before .before .before .before .before .before .before .before .before .before .source2 .ensures) (c .before .before .before .before .before .before .before .before .before .before .target2 .ensures)
 
 sub-hypercall : tie.Need-sub-hypercall
 sub-hypercall c = search needs
@@ -94,7 +94,7 @@ same-length-4 : tie.Need-same-length-4
 same-length-4 c = search needs
 
 returns-2 : tie.Need-returns-2
-returns-2 c = plays-other (words (c .before .before .before .before .before .before .before .before .before .before .before .before)) _ (c .before .before .before .before .before .hypercall2 .ensures) (c .before .before .before .before .before .before .before .before .before .before .before .if1 .left) refl refl
+returns-2 c = plays-other (words (c .before .before .before .before .before .before .before .before .before .before .before .before)) _ (c .before .before .before .before .before .hypercall2 .ensures .0) (c .before .before .before .before .before .before .before .before .before .before .before .if1 .left) refl refl
 
 pub play-spec : {M : Type 1} → statement M
 play-spec =

@@ -9,11 +9,10 @@ use types.Run.{OneOf, miss}
 use denote.Ref.{now}
 use denote.Enum.Declared.{tagOf}
 use borrow.Author.Needs.{needs}
-use Rattle.interface.specs.Places.{sized, tablesOf}
+use Rattle.interface.specs.Places.{sized, tablesOf, tables}
 use Rattle.interface.specs.Boot.{boot}
-use Rattle.capabilities.specs.Callers.{tables}
+use Rattle.interface.specs.Outcomes.{Answered}
 use Rattle.playback.specs.declared.Found.the-variants.{Whole}
-use Rattle.kernel.specs.Promises.{Answered}
 use Rattle.playback.specs.Sequences.{foundIn, recorded}
 use Rattle.playback.proofs.Found
 use Rattle.playback.proofs.SequenceLaws.{Reached, reached-start, reached-next, reached-end, whole-inside, none-recorded, past-recorded, boot-refused, boot-done, sequence-refused, sequence-done, sequence-lent}
@@ -41,14 +40,14 @@ same-length-2 c = search needs
 
 returns : tie.Need-returns Inv-loop μ-loop
 returns c =
-    let (other, stay) = boot-refused (c .before .before .before .before .before .before .boot .ensures) (λ e. c .if1 .taken (c .before .status .ensures ∙ e)) in
+    let (other, stay) = boot-refused (c .before .before .before .before .before .before .boot .ensures .0) (λ e. c .if1 .taken (c .before .status .ensures ∙ e)) in
     (sequence-refused _ _ _ other stay, λ fit. absurd (true≢false (sym fit ∙ other)))
 
 -- boot's tables
 started : (c : tie.Else1 Inv-loop μ-loop) →
     let before = tables (now (c .before .before .before .before .before .before .before .before .before .before .before .before .args .places)) (now (c .before .before .before .before .before .before .before .before .before .before .before .before .args .objects)) in
     (sized before ≡ true) × (tables (c .before .before .before .before .before .before .boot .last .0) (c .before .before .before .before .before .before .boot .last .1 .0) ≡ tablesOf boot)
-started c = boot-done (c .before .before .before .before .before .before .boot .ensures) (sym (c .before .status .ensures) ∙ c .if1 .left)
+started c = boot-done (c .before .before .before .before .before .before .boot .ensures .0) (sym (c .before .status .ensures) ∙ c .if1 .left)
 
 loop-holds : tie.Need-loop-holds Inv-loop μ-loop
 loop-holds c = (refl, refl, omega arith, omega arith, reached-start _ _ (started c .1))

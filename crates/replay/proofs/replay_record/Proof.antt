@@ -1,6 +1,6 @@
 -- The reply and the tables are those of the hypercall, and the line is that of the reply.
 use mathlib.Core.Path.{ap}
-use Rattle.kernel.specs.Promises.{Answered}
+use Rattle.interface.specs.Outcomes.{Answered}
 use borrow.Author.Needs.{needs}
 use Rattle.replay.proofs.replay_record.Statement.{statement}
 use Rattle.replay.proofs.replay_record.Tie as tie

@@ -8,7 +8,7 @@ use types.Run.{OneOf, miss}
 use denote.Ref.{now}
 use denote.Enum.Declared.{tagOf}
 use borrow.Author.Needs.{needs}
-use Rattle.capabilities.specs.Callers.{tables}
+use Rattle.interface.specs.Places.{tables}
 use Rattle.playback.specs.declared.Found.the-variants.{Whole}
 use Rattle.playback.specs.Sequences.{foundIn, recorded}
 use Rattle.playback.proofs.Found

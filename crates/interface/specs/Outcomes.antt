@@ -1,10 +1,11 @@
--- What a hypercall promises, of any tables and blocks: the reply, the tables and the block of the interface.
+-- Outcomes: what a hypercall and boot come to on lent tables and blocks, as one value each, so that a promise of code is one equation.
 use Prim.Native.Nat.{ℕ}
+use mathlib.Core.Path.{_≡_}
 use mathlib.Core.List.{List}
 use Rattle.descriptor.specs.declared.Reply.{Reply}
-use Rattle.interface.specs.Places.{Tables}
+use Rattle.interface.specs.Places.{Tables, tables}
 use Rattle.interface.specs.Verdicts.{Call}
-use Rattle.interface.specs.Rules.{hypercallReply, hypercallTables, hypercallBlock}
+use Rattle.interface.specs.Rules.{hypercallReply, hypercallTables, hypercallBlock, bootReply, bootTables}
 
 -- a hypercall by its number, its caller, its six words and the two blocks
 abbrev pub callOf : ℕ → ℕ → ℕ → ℕ → ℕ → ℕ → ℕ → ℕ → List ℕ → List ℕ → Call
@@ -39,3 +40,8 @@ pub record Answered : Type 0 where
 
 abbrev pub answered : Tables → Call → Answered
 answered tables c = record { reply = hypercallReply tables c; tables = hypercallTables tables c }
+
+-- what boot comes to on lent tables: its reply, and the tables that it leaves
+pub record Booted (places objects places-after objects-after : List ℕ) (reply : Reply) : Type 0 where
+  pub replies : reply ≡ bootReply (tables places objects)
+  pub leaves : tables places-after objects-after ≡ bootTables (tables places objects)

@@ -1,2 +1,0 @@
--- What boot promises.
-pub mod Booted
