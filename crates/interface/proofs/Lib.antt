@@ -36,3 +36,5 @@ pub mod FilledLaws
 pub mod RevocationLaws
 pub mod TransferLaws
 pub mod GrantLaws
+pub mod CheckLaws
+pub mod RefusalLaws
