@@ -2,23 +2,27 @@
 use Prim.Native.Nat.{ℕ, _≤_, _<_}
 use mathlib.Core.Path.{_≡_, refl, sym, ap, _∙_}
 use mathlib.Core.Logic.{_↔_, _⊎_, inl, inr, ⊎-elim}
-use mathlib.Core.Bool.{Bool, true, false, not, cond, _&&_, _||_}
+use mathlib.Core.Bool.{Bool, true, false, not, cond, _&&_, _||_, false≢true}
 use mathlib.Core.List.{List, [], _∷_}
 use native.Mathlib.Omega.{arith}
 use lib.Dec.{eqb, leb, ltb}
-use borrow.Author.Tests.{ltb-true, ltb-false, leb-true, leb-false, eqb-true, eqb-false, eq-eqb, not-true, not-false}
+use borrow.Author.Tests.{ltb-true, ltb-false, leb-true, leb-false, eqb-true, eqb-false, not-true, not-false}
 use Rattle.descriptor.specs.Replies.{statusOf}
 use Rattle.descriptor.specs.declared.Reply.{Reply}
 use Rattle.descriptor.specs.declared.Reply.the-variants.{Success, ComTim, BadCap, BadPar, BadCpu, NoRoom}
 use Rattle.interface.specs.Basics.{if_then_else_, member}
 use Rattle.interface.specs.Verdicts.{Verdict, require_else_then_, replyOf}
-use Rattle.interface.proofs.BoolLaws.{not-both, and-left, and-right, or-none-left, or-none-right, either-way}
+use Rattle.interface.proofs.BoolLaws.{cases, not-both, and-left, and-right, or-none-left, or-none-right, either-way}
 
 -- a test decides between a fact and its contrary: the one follows where it holds, the other where it fails, and never both
 pub record Decides (test : Bool) (fact contrary : Type 0) : Type 0 where
   pub holds : test ≡ true → fact
   pub fails : test ≡ false → contrary
   pub apart : fact → contrary → ⊥
+
+-- where the fact holds the test does
+pub decided : {test : Bool} {fact contrary : Type 0} → Decides test fact contrary → fact → test ≡ true
+decided {test} d f = cases test (λ (t : test ≡ true). t) (λ (n : test ≡ false). absurd (d .apart f (d .fails n)))
 
 -- the tests of numbers decide
 pub decides-at-most : (a b : ℕ) → Decides (leb a b) (a ≤ b) (b < a)
@@ -46,6 +50,16 @@ decides-fact test f g =
 pub decides-contrary : {contrary : Type 0} (test : Bool) → (test ≡ false → contrary) → (contrary → test ≡ false) → Decides test (contrary → ⊥) contrary
 decides-contrary test f g =
     record { holds = λ h x. not-both test h (g x); fails = f; apart = λ n x. n x }
+
+-- two tests, each of which fails exactly where a contrary holds, fail together exactly where one of the contraries holds
+pub decides-both : {one other : Type 0} (a b : Bool) → Decides a (one → ⊥) one → Decides b (other → ⊥) other → Decides (a && b) (one ⊎ other → ⊥) (one ⊎ other)
+decides-both {one} {other} true b d e =
+    record {
+      holds = λ h. ⊎-elim (λ (x : one). d .holds refl x) (λ (x : other). e .holds h x);
+      fails = λ h. inr (e .fails h);
+      apart = λ n x. n x;
+    }
+decides-both {one} {other} false b d e = record { holds = λ h. absurd (false≢true h); fails = λ h. inl (d .fails refl); apart = λ n x. n x }
 
 -- the refusal of a status, of those that a call's own checks have
 abbrev pub refusalOf : ℕ → Reply

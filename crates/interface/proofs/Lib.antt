@@ -38,3 +38,4 @@ pub mod TransferLaws
 pub mod GrantLaws
 pub mod CheckLaws
 pub mod RefusalLaws
+pub mod CreationRefusals

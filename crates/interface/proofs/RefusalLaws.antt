@@ -1,8 +1,8 @@
 -- Each refusal of a call has exactly its cause: the checks of each call's rule as facts.
-use Prim.Native.Nat.{ℕ, _≤_, _<_}
+use Prim.Native.Nat.{ℕ}
 use mathlib.Core.Path.{_≡_, refl, sym, ap, _∙_}
 use mathlib.Core.Logic.{_↔_}
-use mathlib.Core.Bool.{Bool, true, not, _&&_}
+use mathlib.Core.Bool.{true, _&&_}
 use mathlib.Core.List.{List, [], _∷_}
 use lib.Dec.{eqb}
 use lib.ListN.{length}
@@ -13,7 +13,7 @@ use Rattle.words.specs.Permissions.{permits}
 use Rattle.descriptor.specs.Replies.{statusOf}
 use Rattle.descriptor.specs.declared.Reply.{Reply}
 use Rattle.descriptor.specs.declared.Reply.the-variants.{Success, ComTim, BadCap, BadPar, BadCpu}
-use Rattle.interface.specs.Basics.{word, any, member}
+use Rattle.interface.specs.Basics.{any, member}
 use Rattle.interface.specs.Places.{State, PT, domainWord, cpuWord, callBit, kindOf, objectPlace, permitted, objectIn}
 use Rattle.interface.specs.Damage.{soundState, isEc}
 use Rattle.interface.specs.Effects.{Effect}
@@ -21,7 +21,7 @@ use Rattle.interface.specs.Verdicts.{Call, CALL, callerDomain, Verdict, 
 use Rattle.interface.specs.Message.{payloadWords, payloadFits, Moved, transfer}
 use Rattle.interface.specs.PortalCalls.{portalCall}
 use Rattle.interface.specs.Rules.{rule, hypercall, called, rules}
-use Rattle.interface.specs.Refusals.{Every, Holds, WholeBlocks, portalPlace, calleeOf, payloadAsked, CallRefusedExactly}
+use Rattle.interface.specs.Refusals.{Holds, WholeBlocks, calleeOf, payloadAsked, CallRefusedExactly}
 use Rattle.interface.proofs.BoolLaws.{and-left, and-right, both}
 use Rattle.interface.proofs.Soundness.{Sound, sound-facts}
 use Rattle.interface.proofs.SoundFacts.{permits-live, permitted-kind, own-record}

@@ -7,14 +7,18 @@ use mathlib.Core.Bool.{true}
 use mathlib.Core.List.{List, [], _∷_}
 use lib.ListN.{length}
 use Rattle.words.specs.Fields.{bits}
-use Rattle.words.specs.Sizes.{records, blockWords}
+use Rattle.words.specs.Sizes.{domains, object, records, blockWords}
 use Rattle.descriptor.specs.Replies.{statusOf}
+use Rattle.descriptor.specs.declared.Range.{Range}
+use Rattle.descriptor.specs.declared.Reading.the-variants.{Malformed, Good}
 use Rattle.descriptor.specs.declared.Reply.{Reply}
-use Rattle.descriptor.specs.declared.Reply.the-variants.{Success, ComTim, BadCap, BadPar, BadCpu}
+use Rattle.descriptor.specs.declared.Reply.the-variants.{Success, ComTim, BadCap, BadPar, BadCpu, NoRoom}
 use Rattle.interface.specs.Basics.{word, member}
-use Rattle.interface.specs.Places.{State, PT, ecWord, cpuWord, callBit, kindOf, objectPlace, objectIn}
-use Rattle.interface.specs.Damage.{soundState, isEc}
-use Rattle.interface.specs.Verdicts.{Call, CALL, callerDomain, replyOf}
+use Rattle.interface.specs.Places.{State, free, PD, EC, SC, PT, SM, ecWord, cpuWord, createBit, bindScBit, bindPtBit, callBit, kindOf, objectPlace, objectIn}
+use Rattle.interface.specs.Damage.{soundState, hasPd, isEc}
+use Rattle.interface.specs.Descriptors.{reading}
+use Rattle.interface.specs.Verdicts.{Call, CALL, CREATE-PD, CREATE-EC, CREATE-SC, CREATE-PT, CREATE-SM, callerDomain, replyOf}
+use Rattle.interface.specs.Creations.{newPlace, pdPlace, ecPlace}
 use Rattle.interface.specs.Message.{payloadWords, untypedCount, typedCount, itemWords}
 use Rattle.interface.specs.Rules.{rules}
 
@@ -81,3 +85,77 @@ pub record CallRefusedExactly : Type 0 where
   pub call-granted : Every CALL (λ s c. ((answer : ℕ) × Answers s c (Success answer)) ↔
       (WholeBlocks c and-then Callable s c and-then (calleeOf s c ≡ c .caller → ⊥) and-then SameCpu s c and-then (payloadAsked c ≤ payloadWords)))
   pub call-no-other : Every CALL (StatusAmong (0 ∷ 1 ∷ 4 ∷ 5 ∷ 7 ∷ []))
+
+-- The creations.
+
+-- what every creation asks for: the place of the new selector is null, and that of the PD selector holds a PD with the create bit of the kind
+pub record MayCreate (s : State) (c : Call) (kind : ℕ) : Type 0 where
+  pub new-null : s .caps (newPlace s c) .permissions ≡ 0
+  pub by-pd : Holds s (pdPlace s c) PD (createBit kind)
+
+-- what the creation of an SC or a PT asks for besides: the place of the EC selector holds an EC with the bind bit
+pub record MayBind (s : State) (c : Call) (kind bit : ℕ) : Type 0 where
+  pub may-create : MayCreate s c kind
+  pub by-ec : Holds s (ecPlace s c) EC bit
+
+-- no record is free
+abbrev pub NoRecordFree : State → Type 0
+NoRecordFree s = (number : ℕ) → number < records → kindOf s number ≡ free → ⊥
+
+-- the domains 1 to 7 all have a PD
+abbrev pub NoDomainLeft : State → Type 0
+NoDomainLeft s = (domain : ℕ) → 0 < domain → domain < domains → hasPd s domain ≡ true
+
+-- an initial descriptor is malformed, or neither null nor of objects
+abbrev pub BadInitial : Call → Type 0
+BadInitial c = (reading (c .third) ≡ Malformed) ⊎ ((range : Range) × (reading (c .third) ≡ Good range) × (range .space ≡ object → ⊥))
+
+-- CREATE_PD: BAD_CAP without the capabilities; BAD_PAR for a bad initial descriptor; NO_ROOM where no domain is left or no record is free
+pub record CreatePdRefusedExactly : Type 0 where
+  pub pd-bad-cap : Every CREATE-PD (λ s c. Answers s c BadCap ↔ (MayCreate s c PD → ⊥))
+  pub pd-bad-par : Every CREATE-PD (λ s c. Answers s c BadPar ↔ (MayCreate s c PD and-then BadInitial c))
+  pub pd-no-room : Every CREATE-PD (λ s c. Answers s c NoRoom ↔ (MayCreate s c PD and-then (BadInitial c → ⊥) and-then (NoDomainLeft s ⊎ NoRecordFree s)))
+  pub pd-granted : Every CREATE-PD (λ s c. Answers s c (Success 0) ↔ (MayCreate s c PD and-then (BadInitial c → ⊥) and-then (NoDomainLeft s ⊎ NoRecordFree s → ⊥)))
+  pub pd-no-other : Every CREATE-PD (StatusAmong (0 ∷ 4 ∷ 5 ∷ 16 ∷ []))
+
+-- CREATE_EC: BAD_CAP without the capabilities; BAD_CPU for a CPU above 3; NO_ROOM where no record is free
+pub record CreateEcRefusedExactly : Type 0 where
+  pub ec-bad-cap : Every CREATE-EC (λ s c. Answers s c BadCap ↔ (MayCreate s c EC → ⊥))
+  pub ec-bad-cpu : Every CREATE-EC (λ s c. Answers s c BadCpu ↔ (MayCreate s c EC and-then (3 < c .third)))
+  pub ec-no-room : Every CREATE-EC (λ s c. Answers s c NoRoom ↔ (MayCreate s c EC and-then (c .third ≤ 3) and-then NoRecordFree s))
+  pub ec-granted : Every CREATE-EC (λ s c. Answers s c (Success 0) ↔ (MayCreate s c EC and-then (c .third ≤ 3) and-then (NoRecordFree s → ⊥)))
+  pub ec-no-other : Every CREATE-EC (StatusAmong (0 ∷ 4 ∷ 7 ∷ 16 ∷ []))
+
+-- the QPD of CREATE_SC has priority 0 or quantum 0
+abbrev pub BadQpd : Call → Type 0
+BadQpd c = (bits 0 7 (c .fourth) ≡ 0) ⊎ (bits 12 31 (c .fourth) ≡ 0)
+
+-- CREATE_SC: BAD_CAP without the capabilities, that with the EC's bind bit for SCs among them; BAD_PAR for priority or quantum 0; NO_ROOM where no record is free
+pub record CreateScRefusedExactly : Type 0 where
+  pub sc-bad-cap : Every CREATE-SC (λ s c. Answers s c BadCap ↔ (MayBind s c SC bindScBit → ⊥))
+  pub sc-bad-par : Every CREATE-SC (λ s c. Answers s c BadPar ↔ (MayBind s c SC bindScBit and-then BadQpd c))
+  pub sc-no-room : Every CREATE-SC (λ s c. Answers s c NoRoom ↔ (MayBind s c SC bindScBit and-then (BadQpd c → ⊥) and-then NoRecordFree s))
+  pub sc-granted : Every CREATE-SC (λ s c. Answers s c (Success 0) ↔ (MayBind s c SC bindScBit and-then (BadQpd c → ⊥) and-then (NoRecordFree s → ⊥)))
+  pub sc-no-other : Every CREATE-SC (StatusAmong (0 ∷ 4 ∷ 5 ∷ 16 ∷ []))
+
+-- CREATE_PT: BAD_CAP without the capabilities, that with the EC's bind bit for PTs among them; NO_ROOM where no record is free
+pub record CreatePtRefusedExactly : Type 0 where
+  pub pt-bad-cap : Every CREATE-PT (λ s c. Answers s c BadCap ↔ (MayBind s c PT bindPtBit → ⊥))
+  pub pt-no-room : Every CREATE-PT (λ s c. Answers s c NoRoom ↔ (MayBind s c PT bindPtBit and-then NoRecordFree s))
+  pub pt-granted : Every CREATE-PT (λ s c. Answers s c (Success 0) ↔ (MayBind s c PT bindPtBit and-then (NoRecordFree s → ⊥)))
+  pub pt-no-other : Every CREATE-PT (StatusAmong (0 ∷ 4 ∷ 16 ∷ []))
+
+-- CREATE_SM: BAD_CAP without the capabilities; NO_ROOM where no record is free
+pub record CreateSmRefusedExactly : Type 0 where
+  pub sm-bad-cap : Every CREATE-SM (λ s c. Answers s c BadCap ↔ (MayCreate s c SM → ⊥))
+  pub sm-no-room : Every CREATE-SM (λ s c. Answers s c NoRoom ↔ (MayCreate s c SM and-then NoRecordFree s))
+  pub sm-granted : Every CREATE-SM (λ s c. Answers s c (Success 0) ↔ (MayCreate s c SM and-then (NoRecordFree s → ⊥)))
+  pub sm-no-other : Every CREATE-SM (StatusAmong (0 ∷ 4 ∷ 16 ∷ []))
+
+-- each refusal of a creation has exactly its cause, and it is granted exactly where none applies
+pub record CreationsRefusedExactly : Type 0 where
+  pub create-pd : CreatePdRefusedExactly
+  pub create-ec : CreateEcRefusedExactly
+  pub create-sc : CreateScRefusedExactly
+  pub create-pt : CreatePtRefusedExactly
+  pub create-sm : CreateSmRefusedExactly

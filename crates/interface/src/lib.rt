@@ -1,7 +1,7 @@
 // The interface as definitions (specs/) and what is proved of them: each function here promises one statement and does nothing, so that its proof is the
 // statement's.
 ghost use Rattle.interface.specs.Consequences.{StaysSound, DamagedExactly, RefusedStays, NothingIsNothing, GrantedWhereDue, AddsNoPermission, RevokesExactly};
-ghost use Rattle.interface.specs.Refusals.{CallRefusedExactly};
+ghost use Rattle.interface.specs.Refusals.{CallRefusedExactly, CreationsRefusedExactly};
 ghost use Rattle.interface.specs.Demand.{Demand3};
 ghost use Rattle.interface.specs.Examples.{WorkedExamples, JournalExample};
 
@@ -48,6 +48,11 @@ pub fn revokes_exactly()
 // Each refusal of CALL has exactly its cause, and CALL is granted exactly where none applies.
 pub fn call_refused_exactly()
     ensures { λ r. ⌜ CallRefusedExactly ⌝ }
+{}
+
+// Each refusal of a creation has exactly its cause, and it is granted exactly where none applies.
+pub fn creations_refused_exactly()
+    ensures { λ r. ⌜ CreationsRefusedExactly ⌝ }
 {}
 
 // Every worked example follows from the definitions.
