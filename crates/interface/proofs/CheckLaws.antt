@@ -31,6 +31,17 @@ decides-at-most a b = record { holds = leb-true a b; fails = leb-false a b; apar
 pub decides-below : (a b : ℕ) → Decides (ltb a b) (a < b) (b ≤ a)
 decides-below a b = record { holds = ltb-true a b; fails = ltb-false a b; apart = λ l g. omega arith }
 
+pub decides-inside : (a b : ℕ) → Decides (not (leb b a)) (a < b) (b ≤ a)
+decides-inside a b =
+    record {
+      holds = λ h. leb-false b a (not-true (leb b a) h);
+      fails = λ h. leb-true b a (not-false (leb b a) h);
+      apart = λ l g. omega arith;
+    }
+
+pub decides-some : (a : ℕ) → Decides (ltb 0 a) (0 < a) (a ≡ 0)
+decides-some a = record { holds = ltb-true 0 a; fails = λ h. omega (arith, ltb-false 0 a h); apart = λ l g. omega arith }
+
 pub decides-equal : (a b : ℕ) → Decides (eqb a b) (a ≡ b) (a ≡ b → ⊥)
 decides-equal a b = record { holds = eqb-true a b; fails = eqb-false a b; apart = λ e n. n e }
 
@@ -136,7 +147,7 @@ one-check false false true fact contrary rest reply next refusal d same other ne
 one-check false false false fact contrary rest reply next refusal d same other never later = (λ e. absurd (other refl e), λ x. absurd x)
 
 -- a choice of two replies that are not a third is not that
-neither-reply : (test : Bool) (a b reply : Reply) → (a ≡ reply → ⊥) → (b ≡ reply → ⊥) → cond test a b ≡ reply → ⊥
+pub neither-reply : (test : Bool) (a b reply : Reply) → (a ≡ reply → ⊥) → (b ≡ reply → ⊥) → cond test a b ≡ reply → ⊥
 neither-reply true a b reply f g e = f e
 neither-reply false a b reply f g e = g e
 
@@ -209,3 +220,9 @@ pub reply-in-turn : (checks : List Check) (last : Verdict) → replyOf (verdictI
 reply-in-turn [] last = refl
 reply-in-turn (check ∷ checks) last =
     reply-required (check .test) (check .reply) (verdictInTurn checks last) ∙ ap (λ (reply : Reply). cond (check .test) reply (check .reply)) (reply-in-turn checks last)
+
+-- where each check is passed the last verdict stands
+pub last-stands : (checks : List Check) (last : Verdict) → Passed checks → verdictInTurn checks last ≡ last
+last-stands [] last f = refl
+last-stands (check ∷ []) last f = rw (decided (check .decides) f)
+last-stands (check ∷ next ∷ checks) last f = rw (decided (check .decides) (f .0)) (last-stands (next ∷ checks) last (f .1))

@@ -35,7 +35,7 @@ pub mod DelegationLaws
 pub mod FilledLaws
 pub mod RevocationLaws
 pub mod TransferLaws
-pub mod GrantLaws
 pub mod CheckLaws
 pub mod RefusalLaws
 pub mod CreationRefusals
+pub mod OtherRefusals

@@ -25,7 +25,7 @@ use Rattle.interface.specs.Refusals.{Holds, WholeBlocks, calleeOf, paylo
 use Rattle.interface.proofs.BoolLaws.{and-left, and-right, both}
 use Rattle.interface.proofs.Soundness.{Sound, sound-facts}
 use Rattle.interface.proofs.SoundFacts.{permits-live, permitted-kind, own-record}
-use Rattle.interface.proofs.CheckLaws.{Decides, decides-at-most, decides-equal, decides-other, decides-fact, Refusal, success-no-refusal, Check, inTurn, Cause, Passed, checked, caused-exactly, each-passed, each-passes, allAmong, status-among, verdictInTurn, reply-in-turn}
+use Rattle.interface.proofs.CheckLaws.{Decides, decides-at-most, decides-equal, decides-other, decides-fact, Refusal, success-no-refusal, Check, inTurn, Cause, Passed, checked, caused-exactly, each-passed, each-passes, allAmong, status-among, verdictInTurn, reply-in-turn, last-stands}
 
 -- a call of a number by an EC on a sound state is judged by the number's rule
 pub by-rule : (s : State) (c : Call) (number : ℕ) (verdict : State → Call → Verdict) → hypercall number ≡ rule verdict → soundState s ≡ true → isEc s (c .caller) ≡ true →
@@ -61,6 +61,10 @@ module _ (s : State) (c : Call) (checks : List Check) (answer : ℕ) (effects : 
         each-passed (λ (reply : Reply). reply ≡ Success given) (λ reply r p. success-no-refusal reply given r p) (Success answer) checks (rw reply-is at e) .0,
     λ f. (answer, granted-exactly .1 f),
   )
+
+  -- and then with these steps and this block
+  pub passed-grants : replyOf (rules s c) ≡ Success answer → rules s c ≡ grant answer effects block
+  passed-grants e = is ∙ last-stands checks (grant answer effects block) (granted-exactly .0 e)
 
   -- its status is a check's, or SUCCESS
   pub no-other : (statuses : List ℕ) → member 0 statuses ≡ true → allAmong statuses checks ≡ true → member (statusOf (replyOf (rules s c))) statuses ≡ true

@@ -1,26 +1,28 @@
 -- Refusals: each refusal of a call by an EC on a sound state has exactly its cause, and the call is granted exactly where none applies. The causes are facts of what the tables
 -- show and of the call's words; a cause behind a check says too that the check was passed.
-use Prim.Native.Nat.{ℕ, _+_, _*_, _≤_, _<_}
+use Prim.Native.Nat.{ℕ, _+_, _-_, _*_, _≤_, _<_}
 use mathlib.Core.Path.{_≡_}
 use mathlib.Core.Logic.{_↔_, _⊎_}
 use mathlib.Core.Bool.{true}
 use mathlib.Core.List.{List, [], _∷_}
 use lib.ListN.{length}
-use Rattle.words.specs.Fields.{bits}
-use Rattle.words.specs.Sizes.{domains, object, records, blockWords}
+use Rattle.words.specs.Fields.{bits, greatestWord}
+use Rattle.words.specs.Sizes.{domains, object, places, records, blockWords}
 use Rattle.descriptor.specs.Replies.{statusOf}
 use Rattle.descriptor.specs.declared.Range.{Range}
 use Rattle.descriptor.specs.declared.Reading.the-variants.{Malformed, Good}
 use Rattle.descriptor.specs.declared.Reply.{Reply}
-use Rattle.descriptor.specs.declared.Reply.the-variants.{Success, ComTim, BadCap, BadPar, BadCpu, NoRoom}
+use Rattle.descriptor.specs.declared.Reply.the-variants.{Success, ComTim, BadCap, BadPar, BadCpu, NoRoom, Short}
 use Rattle.interface.specs.Basics.{word, member}
-use Rattle.interface.specs.Places.{State, free, PD, EC, SC, PT, SM, ecWord, cpuWord, createBit, bindScBit, bindPtBit, callBit, kindOf, objectPlace, objectIn}
-use Rattle.interface.specs.Damage.{soundState, hasPd, isEc}
+use Rattle.interface.specs.Places.{State, Tables, shown, free, PD, EC, SC, PT, SM, ecWord, cpuWord, countWord, createBit, bindScBit, bindPtBit, callBit, kindOf, objectPlace, objectIn}
+use Rattle.interface.specs.Damage.{soundState, sound, hasPd, isEc}
 use Rattle.interface.specs.Descriptors.{reading}
-use Rattle.interface.specs.Verdicts.{Call, CALL, CREATE-PD, CREATE-EC, CREATE-SC, CREATE-PT, CREATE-SM, callerDomain, replyOf}
+use Rattle.interface.specs.Effects.{Effect}
+use Rattle.interface.specs.Verdicts.{Call, CALL, CREATE-PD, CREATE-EC, CREATE-SC, CREATE-PT, CREATE-SM, REVOKE, LOOKUP, SM-CTRL, callerDomain, grant, replyOf}
 use Rattle.interface.specs.Creations.{newPlace, pdPlace, ecPlace}
 use Rattle.interface.specs.Message.{payloadWords, untypedCount, typedCount, itemWords}
-use Rattle.interface.specs.Rules.{rules}
+use Rattle.interface.specs.Rules.{rules, after}
+use Rattle.interface.specs.Census.{descendants, census}
 
 -- what holds of every call of a number by an EC on a sound state
 abbrev pub Every : ℕ → (State → Call → Type 0) → Type 0
@@ -46,6 +48,10 @@ pub record Holds (s : State) (place kind bit : ℕ) : Type 0 where
   pub of-kind : kindOf s (objectIn s place) ≡ kind
   pub has-bit : bits bit bit (s .caps place .permissions) ≡ 1
 
+-- the place that a call's first selector names: that of CALL's portal, and of SM_CTRL's semaphore
+abbrev pub namedPlace : State → Call → ℕ
+namedPlace s c = objectPlace (callerDomain s c) (c .first)
+
 -- CALL.
 
 -- both message blocks have 64 words
@@ -53,16 +59,13 @@ pub record WholeBlocks (c : Call) : Type 0 where
   pub source-whole : length (c .source) ≡ blockWords
   pub target-whole : length (c .target) ≡ blockWords
 
--- the place of the portal selector, and the EC that the portal there names: the callee
-abbrev pub portalPlace : State → Call → ℕ
-portalPlace s c = objectPlace (callerDomain s c) (c .first)
-
+-- the EC that the portal names: the callee
 abbrev pub calleeOf : State → Call → ℕ
-calleeOf s c = s .objects (objectIn s (portalPlace s c)) ecWord
+calleeOf s c = s .objects (objectIn s (namedPlace s c)) ecWord
 
 -- the caller holds a portal with the call bit there
 abbrev pub Callable : State → Call → Type 0
-Callable s c = Holds s (portalPlace s c) PT callBit
+Callable s c = Holds s (namedPlace s c) PT callBit
 
 -- the CPU words of the callee and the caller are equal
 abbrev pub SameCpu : State → Call → Type 0
@@ -159,3 +162,63 @@ pub record CreationsRefusedExactly : Type 0 where
   pub create-sc : CreateScRefusedExactly
   pub create-pt : CreatePtRefusedExactly
   pub create-sm : CreateSmRefusedExactly
+
+-- SM_CTRL.
+
+-- the count of the semaphore
+abbrev pub semaphoreCount : State → Call → ℕ
+semaphoreCount s c = s .objects (objectIn s (namedPlace s c)) countWord
+
+-- after a call the semaphore's count is some number, and no other word of a record and no place has changed
+pub record CountBecomes (s : State) (c : Call) (value : ℕ) : Type 0 where
+  pub count-stored : after s c .objects (objectIn s (namedPlace s c)) countWord ≡ value
+  pub other-words-stay : (number index : ℕ) → ((number ≡ objectIn s (namedPlace s c)) × (index ≡ countWord) → ⊥) → after s c .objects number index ≡ s .objects number index
+  pub places-stay : after s c .caps ≡ s .caps
+
+-- SM_CTRL: an operation above 1 is BAD_PAR; up and down without the semaphore's bit for them are BAD_CAP; up at the greatest word is BAD_PAR, and down at 0 is COM_TIM; otherwise the
+-- count is one more or one less
+pub record SmCtrlRefusedExactly : Type 0 where
+  pub other-bad-par : Every SM-CTRL (λ s c. 1 < c .second → Answers s c BadPar)
+  pub up-bad-cap : Every SM-CTRL (λ s c. c .second ≡ 0 → Answers s c BadCap ↔ (Holds s (namedPlace s c) SM 0 → ⊥))
+  pub up-bad-par : Every SM-CTRL (λ s c. c .second ≡ 0 → Answers s c BadPar ↔ (Holds s (namedPlace s c) SM 0 and-then (greatestWord ≤ semaphoreCount s c)))
+  pub up-granted : Every SM-CTRL (λ s c. c .second ≡ 0 → Answers s c (Success 0) ↔ (Holds s (namedPlace s c) SM 0 and-then (semaphoreCount s c < greatestWord)))
+  pub up-counts : Every SM-CTRL (λ s c. c .second ≡ 0 → Answers s c (Success 0) → CountBecomes s c (semaphoreCount s c + 1))
+  pub up-no-other : Every SM-CTRL (λ s c. c .second ≡ 0 → StatusAmong (0 ∷ 4 ∷ 5 ∷ []) s c)
+  pub down-bad-cap : Every SM-CTRL (λ s c. c .second ≡ 1 → Answers s c BadCap ↔ (Holds s (namedPlace s c) SM 1 → ⊥))
+  pub down-com-tim : Every SM-CTRL (λ s c. c .second ≡ 1 → Answers s c ComTim ↔ (Holds s (namedPlace s c) SM 1 and-then (semaphoreCount s c ≡ 0)))
+  pub down-granted : Every SM-CTRL (λ s c. c .second ≡ 1 → Answers s c (Success 0) ↔ (Holds s (namedPlace s c) SM 1 and-then (0 < semaphoreCount s c)))
+  pub down-counts : Every SM-CTRL (λ s c. c .second ≡ 1 → Answers s c (Success 0) → CountBecomes s c (semaphoreCount s c - 1))
+  pub down-no-other : Every SM-CTRL (λ s c. c .second ≡ 1 → StatusAmong (0 ∷ 1 ∷ 4 ∷ []) s c)
+
+-- LOOKUP and REVOKE.
+
+-- LOOKUP: BAD_PAR exactly for a malformed descriptor; otherwise it is granted, takes no step and leaves the block
+pub record LookupRefusedExactly : Type 0 where
+  pub lookup-bad-par : Every LOOKUP (λ s c. Answers s c BadPar ↔ (reading (c .first) ≡ Malformed))
+  pub lookup-granted : Every LOOKUP (λ s c. ((answer : ℕ) × (rules s c ≡ grant answer [] (c .target))) ↔ (reading (c .first) ≡ Malformed → ⊥))
+  pub lookup-no-other : Every LOOKUP (StatusAmong (0 ∷ 5 ∷ []))
+
+-- REVOKE: BAD_PAR exactly for a self word above 1 or a malformed descriptor; otherwise it is granted, answers 0 and leaves the block
+pub record RevokeRefusedExactly : Type 0 where
+  pub revoke-bad-par : Every REVOKE (λ s c. Answers s c BadPar ↔ ((1 < c .second) ⊎ ((c .second ≤ 1) and-then (reading (c .first) ≡ Malformed))))
+  pub revoke-granted : Every REVOKE (λ s c. ((effects : List Effect) × (rules s c ≡ grant 0 effects (c .target))) ↔ ((c .second ≤ 1) and-then (reading (c .first) ≡ Malformed → ⊥)))
+  pub revoke-no-other : Every REVOKE (StatusAmong (0 ∷ 5 ∷ []))
+
+-- The census.
+
+-- what holds of every census of sound tables, by its reply, the place's permissions and the number of the place's descendants
+abbrev pub EveryCensus : (ℕ → List ℕ → Reply → (permissions found : ℕ) → Type 0) → Type 0
+EveryCensus Holding =
+    (tables : Tables) (place : ℕ) (list : List ℕ) → sound tables ≡ true →
+    Holding place list (census tables place list .reply) (shown tables .caps place .permissions) (length (descendants (shown tables .caps) place))
+
+-- The census: BAD_PAR exactly for a place number of 1,536 or more; BAD_CAP exactly for a null place; SHORT with the needed count exactly for a live place and a shorter list;
+-- otherwise SUCCESS with the count of descendants
+pub record CensusRefusedExactly : Type 0 where
+  pub census-bad-par : EveryCensus (λ place list reply permissions found. (reply ≡ BadPar) ↔ (places ≤ place))
+  pub census-bad-cap : EveryCensus (λ place list reply permissions found. (reply ≡ BadCap) ↔ ((place < places) and-then (permissions ≡ 0)))
+  pub census-short : EveryCensus (λ place list reply permissions found. (needed : ℕ) → (reply ≡ Short needed) ↔
+      ((place < places) and-then (0 < permissions) and-then (length list < found) and-then (found ≡ needed)))
+  pub census-success : EveryCensus (λ place list reply permissions found. (count : ℕ) → (reply ≡ Success count) ↔
+      ((place < places) and-then (0 < permissions) and-then (found ≤ length list) and-then (found ≡ count)))
+  pub census-no-other : EveryCensus (λ place list reply permissions found. member (statusOf reply) (0 ∷ 4 ∷ 5 ∷ 19 ∷ []) ≡ true)
