@@ -30,7 +30,7 @@ use Rattle.interface.proofs.SoundObjects.{free-there, used-below-free}
 use Rattle.interface.proofs.SoundFacts.{home, numbered-home}
 use Rattle.interface.proofs.CreationsFit.{stepsOf}
 use Rattle.interface.proofs.CheckLaws.{Decides, decided, decides-other, decides-fact, decides-contrary, decides-both, Refusal, Check, checked, Cause, Passed, allAmong, verdictInTurn}
-use Rattle.interface.proofs.RefusalLaws.{by-rule, refused-exactly, granted-exactly, no-other, decides-holding}
+use Rattle.interface.proofs.RefusalLaws.{by-rule, refused-exactly, granted-exactly, passed-grants, no-other, decides-holding}
 
 -- a creation asks for its capabilities in one, then for the CPU, the parameters and room
 creation-asks : (s : State) (c : Call) (new : Creation) →
@@ -131,7 +131,11 @@ decides-cpu cpu =
       apart = λ l g. omega arith;
     }
 
--- a call's verdict that is its checks' in turn, and then a grant with answer 0
+-- a call is granted with answer 0, and leaves the block
+abbrev pub Grants : State → Call → Type 0
+Grants s c = (effects : List Effect) × (rules s c ≡ grant 0 effects (c .target))
+
+-- a call's verdict that is its checks' in turn, and then such a grant
 abbrev Checked : State → Call → List Check → Type 0
 Checked s c checks = (effects : List Effect) × (rules s c ≡ verdictInTurn checks (grant 0 effects (c .target)))
 
@@ -141,6 +145,9 @@ module _ (s : State) (c : Call) (checks : List Check) (is : Checked s c checks) 
 
   creation-granted : (replyOf (rules s c) ≡ Success 0) ↔ Passed checks
   creation-granted = granted-exactly s c checks 0 (is .0) (c .target) (is .1)
+
+  creation-grants : replyOf (rules s c) ≡ Success 0 → Grants s c
+  creation-grants g = (is .0, passed-grants s c checks 0 (is .0) (c .target) (is .1) g)
 
   creation-status : (statuses : List ℕ) → member 0 statuses ≡ true → allAmong statuses checks ≡ true → member (statusOf (replyOf (rules s c))) statuses ≡ true
   creation-status = no-other s c checks 0 (is .0) (c .target) (is .1)
@@ -156,6 +163,9 @@ module _ (s : State) (c : Call) (sound : soundState s ≡ true) (e : isEc s (c .
   unfolding hypercall createPd
   pd-checked n = (_, by-rule s c CREATE-PD createPd refl sound e n ∙ creation-asks s c _)
 
+  pub pd-grants : c .number ≡ CREATE-PD → replyOf (rules s c) ≡ Success 0 → Grants s c
+  pd-grants n = creation-grants s c pdChecks (pd-checked n)
+
   abbrev ecChecks : List Check
   ecChecks =
       checked (decides-create s c (sound-facts s sound) e EC) BadCap refl ∷ checked (decides-cpu (c .third)) BadCpu refl ∷
@@ -164,6 +174,9 @@ module _ (s : State) (c : Call) (sound : soundState s ≡ true) (e : isEc s (c .
   ec-checked : c .number ≡ CREATE-EC → Checked s c ecChecks
   unfolding hypercall createEc
   ec-checked n = (_, by-rule s c CREATE-EC createEc refl sound e n ∙ creation-asks s c _)
+
+  pub ec-grants : c .number ≡ CREATE-EC → replyOf (rules s c) ≡ Success 0 → Grants s c
+  ec-grants n = creation-grants s c ecChecks (ec-checked n)
 
   abbrev scChecks : List Check
   scChecks =
@@ -174,6 +187,9 @@ module _ (s : State) (c : Call) (sound : soundState s ≡ true) (e : isEc s (c .
   unfolding hypercall createSc
   sc-checked n = (_, by-rule s c CREATE-SC createSc refl sound e n ∙ creation-asks s c _)
 
+  pub sc-grants : c .number ≡ CREATE-SC → replyOf (rules s c) ≡ Success 0 → Grants s c
+  sc-grants n = creation-grants s c scChecks (sc-checked n)
+
   abbrev ptChecks : List Check
   ptChecks =
       checked (decides-bind s c (sound-facts s sound) e PT bindPtBit) BadCap refl ∷ checked (decides-record s c (sound-facts s sound) e) NoRoom refl ∷ []
@@ -182,6 +198,9 @@ module _ (s : State) (c : Call) (sound : soundState s ≡ true) (e : isEc s (c .
   unfolding hypercall createPt
   pt-checked n = (_, by-rule s c CREATE-PT createPt refl sound e n ∙ creation-asks s c _)
 
+  pub pt-grants : c .number ≡ CREATE-PT → replyOf (rules s c) ≡ Success 0 → Grants s c
+  pt-grants n = creation-grants s c ptChecks (pt-checked n)
+
   abbrev smChecks : List Check
   smChecks =
       checked (decides-create s c (sound-facts s sound) e SM) BadCap refl ∷ checked (decides-record s c (sound-facts s sound) e) NoRoom refl ∷ []
@@ -189,6 +208,9 @@ module _ (s : State) (c : Call) (sound : soundState s ≡ true) (e : isEc s (c .
   sm-checked : c .number ≡ CREATE-SM → Checked s c smChecks
   unfolding hypercall createSm
   sm-checked n = (_, by-rule s c CREATE-SM createSm refl sound e n ∙ creation-asks s c _)
+
+  pub sm-grants : c .number ≡ CREATE-SM → replyOf (rules s c) ≡ Success 0 → Grants s c
+  sm-grants n = creation-grants s c smChecks (sm-checked n)
 
 pub creations-refused-exactly : CreationsRefusedExactly
 unfolding member any

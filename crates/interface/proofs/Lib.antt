@@ -39,3 +39,4 @@ pub mod CheckLaws
 pub mod RefusalLaws
 pub mod CreationRefusals
 pub mod OtherRefusals
+pub mod CreatedLaws

@@ -2,6 +2,7 @@
 // statement's.
 ghost use Rattle.interface.specs.Consequences.{StaysSound, DamagedExactly, RefusedStays, NothingIsNothing, AddsNoPermission, RevokesExactly};
 ghost use Rattle.interface.specs.Refusals.{CallRefusedExactly, CreationsRefusedExactly, SmCtrlRefusedExactly, LookupRefusedExactly, RevokeRefusedExactly, CensusRefusedExactly};
+ghost use Rattle.interface.specs.Created.{CreatedExactly};
 ghost use Rattle.interface.specs.Demand.{Demand3};
 ghost use Rattle.interface.specs.Examples.{WorkedExamples, JournalExample};
 
@@ -68,6 +69,11 @@ pub fn revoke_refused_exactly()
 // Each refusal of the census has exactly its cause, and otherwise it counts the descendants.
 pub fn census_refused_exactly()
     ensures { λ r. ⌜ CensusRefusedExactly ⌝ }
+{}
+
+// A creation that succeeds leaves its object's words in the lowest free record and a capability for it at the new place, and nothing else.
+pub fn created_exactly()
+    ensures { λ r. ⌜ CreatedExactly ⌝ }
 {}
 
 // Every worked example follows from the definitions.
