@@ -1,5 +1,5 @@
 -- Laws of what holds below a number: from the test over all to each number, and back.
-use Prim.Native.Nat.{ℕ, zero, suc, _≤_, _<_}
+use Prim.Native.Nat.{ℕ, zero, suc, _+_, _≤_, _<_}
 use mathlib.Core.Path.{_≡_, refl, _∙_}
 use mathlib.Core.Bool.{Bool, true, false, false≢true}
 use native.Mathlib.Decide.{le-ind}
@@ -61,6 +61,20 @@ pub count-below-past : (n : ℕ) (test : ℕ → Bool) (i : ℕ) → i < n → t
 unfolding countBelow
 count-below-past n test i l h =
     le-ind (λ (k : ℕ). countBelow i test < countBelow k test) (rw h (omega arith)) (λ k b ih. omega arith) n l
+
+-- where a test holds of more than some number of numbers below one, it holds of one that has just as many before it
+pub count-below-reaches : (n : ℕ) (test : ℕ → Bool) (k : ℕ) → k < countBelow n test → (i : ℕ) × (i < n) × (test i ≡ true) × (countBelow i test ≡ k)
+unfolding countBelow
+count-below-reaches zero test k h = absurd (omega arith)
+count-below-reaches (suc n) test k h =
+    cases (ltb k (countBelow n test))
+    (λ (t : ltb k (countBelow n test) ≡ true).
+    let (i, l, holds, e) = count-below-reaches n test k (ltb-true k (countBelow n test) t) in
+    (i, omega arith, holds, e))
+    (λ (f : ltb k (countBelow n test) ≡ false).
+    let past : countBelow n test ≤ k = ltb-false k (countBelow n test) f in
+    cases (test n) (λ (t : test n ≡ true). let more : k < countBelow n test + 1 = rw t at h in (n, omega arith, t, omega arith))
+    (λ (e : test n ≡ false). let same : k < countBelow n test + 0 = rw e at h in absurd (omega arith)))
 
 -- the lowest number that a test holds of: the test holds there, and fails below
 pub lowest-holds : (n : ℕ) (test : ℕ → Bool) → lowest n test < n → test (lowest n test) ≡ true

@@ -43,6 +43,12 @@ module _ (a b : Bool) where
   pub or-none-right : (a || b) ≡ false → b ≡ false
   or-none-right h = cases b (λ (t : b ≡ true). not-both (a || b) (or-right t) h) (λ (f : b ≡ false). f)
 
+pub and-swap : (a b : Bool) → (a && b) ≡ (b && a)
+and-swap true true = refl
+and-swap true false = refl
+and-swap false true = refl
+and-swap false false = refl
+
 pub false-not : (b : Bool) → b ≡ false → not b ≡ true
 false-not b h = rw h
 
@@ -88,6 +94,11 @@ each-of-four a b c d h =
 pub asked-anyway : (condition a : Bool) → a ≡ true → (if condition then a else true) ≡ true
 asked-anyway true a h = h
 asked-anyway false a h = refl
+
+-- a choice in a choice with the same other way is one choice by both tests
+pub one-choice : {A : Type 0} (a b : Bool) (x y : A) → (if a then (if b then x else y) else y) ≡ (if a && b then x else y)
+one-choice true b x y = refl
+one-choice false b x y = refl
 
 -- what holds of both ways of a choice holds of the choice
 pub either-way : {A : Type 0} (P : A → Type 0) (test : Bool) (x y : A) → P x → P y → P (if test then x else y)

@@ -2,7 +2,7 @@
 use Prim.Native.Nat.{ℕ, zero, suc, _+_, _*_, _/_, _%_, _≤_, _<_}
 use mathlib.Core.Path.{_≡_, refl, sym, ap, _∙_, subst}
 use mathlib.Core.Logic.{_↔_}
-use mathlib.Core.Bool.{Bool, true, false, _&&_, true≢false}
+use mathlib.Core.Bool.{Bool, true, false, true≢false}
 use mathlib.Core.List.{List, [], _∷_}
 use native.Mathlib.Omega.{arith}
 use lib.Dec.{eqb, ltb}
@@ -29,7 +29,7 @@ use Rattle.interface.specs.Census.{CensusResult, counted, censusOf}
 use Rattle.interface.specs.History.{Event, hypercalls, counts}
 use Rattle.interface.specs.Demand.{tablesAfter, tablesAfterAll}
 use Rattle.interface.specs.Consequences.{StaysSound, DamagedExactly, RefusedStays}
-use Rattle.interface.proofs.BoolLaws.{cases, and-left, and-right, both, either-way}
+use Rattle.interface.proofs.BoolLaws.{cases, and-left, and-right, both, one-choice, either-way}
 use Rattle.interface.proofs.PutLaws.{put-other, put-keeps}
 use Rattle.interface.proofs.Soundness.{sound-facts, facts-sound}
 use Rattle.interface.proofs.Steps.{Fits, FitInTurn}
@@ -216,11 +216,6 @@ module _ (s : State) (c : Call) where
   called-undamaged : Undamaged (called s c (hypercall (c .number)))
   unfolding hypercall portalCall creation createPd createEc createSc createPt createSm revoke lookup smCtrl
   called-undamaged = search (called-choice, called-rule, called-none, undamaged) depth 20
-
--- a choice in a choice with the same other way is one choice by both tests
-one-choice : {A : Type 0} (a b : Bool) (x y : A) → (if a then (if b then x else y) else y) ≡ (if a && b then x else y)
-one-choice true b x y = refl
-one-choice false b x y = refl
 
 -- a call asks first whether the tables are sound
 pub judged-once : (tables : Tables) (c : Call) → judged tables c ≡ (require sound tables else Damaged then called (shown tables) c (hypercall (c .number)))

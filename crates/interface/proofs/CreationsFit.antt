@@ -211,7 +211,7 @@ no-initial s c new none = record { steps = rw none (place-steps-none (stored s (
 
 -- the delegations of an initial descriptor to a domain with a PD fit, and leave every place of another domain alone
 module _ (t : State) (from to place : ℕ) (f : from < domains) (l : to < domains) (h : hasPd t to ≡ true) (apart : domainOf place ≡ to → ⊥) where
-  initial-gives : (read : Reading) → ((range : Range) → read ≡ Good range → Proper range) → initialGood read ≡ true →
+  pub initial-gives : (read : Reading) → ((range : Range) → read ≡ Good range → Proper range) → initialGood read ≡ true →
       PlaceSteps (initialGives from to read) t × (run (initialGives from to read) t .caps place ≡ t .caps place)
   unfolding run
   initial-gives Null p good = (place-steps-none t, refl)

@@ -35,4 +35,8 @@ pub mod DelegationLaws
 pub mod FilledLaws
 pub mod RevocationLaws
 pub mod TransferLaws
-pub mod GrantLaws
+pub mod CheckLaws
+pub mod RefusalLaws
+pub mod CreationRefusals
+pub mod OtherRefusals
+pub mod CreatedLaws

@@ -1,5 +1,5 @@
 -- What a sound state tells: of the domains that have a PD, of ECs and portals, of the free records, and of the places that a rule asks for.
-use Prim.Native.Nat.{ℕ, _+_, _%_, _<_}
+use Prim.Native.Nat.{ℕ, _+_, _-_, _%_, _<_}
 use mathlib.Core.Path.{_≡_}
 use mathlib.Core.Bool.{true, not, _&&_}
 use native.Mathlib.Nat.{zero-div, zero-mod}
@@ -15,7 +15,7 @@ use Rattle.interface.specs.Boot.{cpus}
 use Rattle.interface.specs.Damage.{pdsBelow, pd-rule, hasPd, isEc, ec-rule, pt-rule, isResource}
 use Rattle.interface.specs.Creations.{freeRecord, nextDomain}
 use Rattle.interface.proofs.BoolLaws.{and-left, and-right, both, asked}
-use Rattle.interface.proofs.BelowLaws.{any-below, any-below-at, count-below-none, count-below-past}
+use Rattle.interface.proofs.BelowLaws.{any-below, any-below-at, count-below-none, count-below-past, count-below-reaches}
 use Rattle.interface.proofs.Soundness.{Sound}
 use Rattle.interface.proofs.PlaceFacts.{some-live, live-facts, pd-numbered}
 use Rattle.interface.proofs.SoundObjects.{free-from}
@@ -125,3 +125,10 @@ module _ (s : State) (k : Sound s) where
   pds-used l =
       count-below-none (freeRecord s) records (λ q. eqb (kindOf s q) PD) (omega arith)
       (λ i b c. let none : kindOf s i ≡ free = free-from s k i b c in rw none)
+
+  -- the domains from 1 up to as many as there are PDs have a PD
+  pub numbered-home : (domain : ℕ) → 0 < domain → domain < nextDomain s → hasPd s domain ≡ true
+  unfolding pdsBelow
+  numbered-home domain some l =
+      let (r, small, is-pd, e) = count-below-reaches records (λ q. eqb (kindOf s q) PD) (domain - 1) (omega arith) in
+      has-pd s r domain small (eqb-true (kindOf s r) PD is-pd) (omega (arith, pd-numbered s r (k .pds r small) is-pd))

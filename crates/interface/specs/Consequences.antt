@@ -16,8 +16,8 @@ use Rattle.descriptor.specs.declared.Reply.the-variants.{Damaged}
 use Rattle.interface.specs.Basics.{if_then_else_, word}
 use Rattle.interface.specs.Places.{Cap, State, Tables, live, parentless, free, PD, EC, SC, PT, SM, domainWord, ecWord, kindOf, greatestOf, objectPlace, objectIn, tablesOf}
 use Rattle.interface.specs.Boot.{boot, hypervisor, root}
-use Rattle.interface.specs.Damage.{soundState, sound, isEc}
-use Rattle.interface.specs.Descriptors.{describe, reading, malformed}
+use Rattle.interface.specs.Damage.{sound}
+use Rattle.interface.specs.Descriptors.{describe, reading}
 use Rattle.interface.specs.Effects.{Effect, give, among, below, stripped}
 use Rattle.interface.specs.Verdicts.{Call, CALL, CREATE-PD, REVOKE, LOOKUP, callerDomain, grant, effectsOf}
 use Rattle.interface.specs.Creations.{newPlace, freeRecord, nextDomain}
@@ -79,13 +79,6 @@ NothingIsNothing =
       order = order;
       mask = s .caps (placeOf (callerDomain s c) (range .space) (range .base)) .permissions;
     })))
-
--- LOOKUP and REVOKE on a sound state by an EC are refused for no other reason than the manual's: a malformed descriptor, or REVOKE's self word above 1
-pub record GrantedWhereDue : Type 0 where
-  pub lookup-granted : (s : State) (c : Call) → soundState s ≡ true → isEc s (c .caller) ≡ true → c .number ≡ LOOKUP → malformed (reading (c .first)) ≡ false →
-      (answer : ℕ) × (rules s c ≡ grant answer [] (c .target))
-  pub revoke-granted : (s : State) (c : Call) → soundState s ≡ true → isEc s (c .caller) ≡ true → c .number ≡ REVOKE → c .second ≤ 1 →
-      malformed (reading (c .first)) ≡ false → (effects : List Effect) × (rules s c ≡ grant 0 effects (c .target))
 
 -- a step of a list that delegates to a place
 pub data Delegates (destination source mask : ℕ) : List Effect → Type 0 where

@@ -18,5 +18,7 @@ pub mod Census
 pub mod History
 pub mod Demand
 pub mod Consequences
+pub mod Refusals
+pub mod Created
 pub mod Journal
 pub mod Examples

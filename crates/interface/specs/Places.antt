@@ -65,6 +65,15 @@ priorityWord = 2
 abbrev pub quantumWord : ℕ
 quantumWord = 3
 
+abbrev pub mtdWord : ℕ
+mtdWord = 2
+
+abbrev pub entryWord : ℕ
+entryWord = 3
+
+abbrev pub identifierWord : ℕ
+identifierWord = 4
+
 abbrev pub countWord : ℕ
 countWord = 1
 

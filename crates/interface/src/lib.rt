@@ -1,6 +1,8 @@
 // The interface as definitions (specs/) and what is proved of them: each function here promises one statement and does nothing, so that its proof is the
 // statement's.
-ghost use Rattle.interface.specs.Consequences.{StaysSound, DamagedExactly, RefusedStays, NothingIsNothing, GrantedWhereDue, AddsNoPermission, RevokesExactly};
+ghost use Rattle.interface.specs.Consequences.{StaysSound, DamagedExactly, RefusedStays, NothingIsNothing, AddsNoPermission, RevokesExactly};
+ghost use Rattle.interface.specs.Refusals.{CallRefusedExactly, CreationsRefusedExactly, SmCtrlRefusedExactly, LookupRefusedExactly, RevokeRefusedExactly, CensusRefusedExactly};
+ghost use Rattle.interface.specs.Created.{CreatedExactly};
 ghost use Rattle.interface.specs.Demand.{Demand3};
 ghost use Rattle.interface.specs.Examples.{WorkedExamples, JournalExample};
 
@@ -29,11 +31,6 @@ pub fn nothing_is_nothing()
     ensures { λ r. ⌜ NothingIsNothing ⌝ }
 {}
 
-// LOOKUP and REVOKE are refused for no other reason than the manual's.
-pub fn granted_where_due()
-    ensures { λ r. ⌜ GrantedWhereDue ⌝ }
-{}
-
 // Delegation adds no permission: no call but REVOKE changes a live place, and what a call fills was delegated as it asks, or is what it created.
 pub fn adds_no_permission()
     ensures { λ r. ⌜ AddsNoPermission ⌝ }
@@ -42,6 +39,41 @@ pub fn adds_no_permission()
 // Revocation is exact.
 pub fn revokes_exactly()
     ensures { λ r. ⌜ RevokesExactly ⌝ }
+{}
+
+// Each refusal of CALL has exactly its cause, and CALL is granted exactly where none applies.
+pub fn call_refused_exactly()
+    ensures { λ r. ⌜ CallRefusedExactly ⌝ }
+{}
+
+// Each refusal of a creation has exactly its cause, and it is granted exactly where none applies.
+pub fn creations_refused_exactly()
+    ensures { λ r. ⌜ CreationsRefusedExactly ⌝ }
+{}
+
+// Each refusal of SM_CTRL has exactly its cause, and otherwise the count is one more or one less.
+pub fn sm_ctrl_refused_exactly()
+    ensures { λ r. ⌜ SmCtrlRefusedExactly ⌝ }
+{}
+
+// LOOKUP is refused exactly for a malformed descriptor.
+pub fn lookup_refused_exactly()
+    ensures { λ r. ⌜ LookupRefusedExactly ⌝ }
+{}
+
+// REVOKE is refused exactly for a self word above 1 or a malformed descriptor.
+pub fn revoke_refused_exactly()
+    ensures { λ r. ⌜ RevokeRefusedExactly ⌝ }
+{}
+
+// Each refusal of the census has exactly its cause, and otherwise it counts the descendants.
+pub fn census_refused_exactly()
+    ensures { λ r. ⌜ CensusRefusedExactly ⌝ }
+{}
+
+// A creation that succeeds leaves its object's words in the lowest free record and a capability for it at the new place, and nothing else.
+pub fn created_exactly()
+    ensures { λ r. ⌜ CreatedExactly ⌝ }
 {}
 
 // Every worked example follows from the definitions.
