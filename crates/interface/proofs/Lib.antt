@@ -36,3 +36,4 @@ pub mod FilledLaws
 pub mod RevocationLaws
 pub mod TransferLaws
 pub mod GrantLaws
+pub mod DeliveryLaws

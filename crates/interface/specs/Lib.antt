@@ -17,5 +17,6 @@ pub mod Census
 pub mod History
 pub mod Demand
 pub mod Consequences
+pub mod Deliveries
 pub mod Journal
 pub mod Examples

@@ -1,6 +1,7 @@
 // The interface as definitions (specs/) and what is proved of them: each function here promises one statement and does nothing, so that its proof is the
 // statement's.
 ghost use Rattle.interface.specs.Consequences.{StaysSound, DamagedExactly, RefusedStays, NothingIsNothing, GrantedWhereDue, AddsNoPermission, RevokesExactly};
+ghost use Rattle.interface.specs.Deliveries.{DeliversItems};
 ghost use Rattle.interface.specs.Demand.{Demand3};
 ghost use Rattle.interface.specs.Examples.{WorkedExamples, JournalExample};
 
@@ -42,6 +43,11 @@ pub fn adds_no_permission()
 // Revocation is exact.
 pub fn revokes_exactly()
     ensures { λ r. ⌜ RevokesExactly ⌝ }
+{}
+
+// CALL delivers its items in turn, each at each of its offsets where the delegation is due and nowhere else, and answers how many places that fills.
+pub fn delivers_items()
+    ensures { λ r. ⌜ DeliversItems ⌝ }
 {}
 
 // Every worked example follows from the definitions.
