@@ -148,7 +148,7 @@ module _ (s : State) (c : Call) where
 
   -- an item that delegates is matched with its window, and its steps are the delegations at its offsets
   module _ (item : ℕ) (range window : Range) (to : DelegatesTo c item range window) where
-    abbrev stepAt : ℕ → Effect
+    abbrev pub stepAt : ℕ → Effect
     stepAt offset = give (destinationAt s c item range window offset) (sourceAt s c item range window offset) (range .mask)
 
     pub outcome-delegates : outcome item ≡
@@ -230,7 +230,7 @@ module _ (s : State) (c : Call) where
         }
 
   -- any other item takes no step: one that is not matched with its window, and one that translates
-  outcome-unmatched : (item : ℕ) → ((range window : Range) → DelegatesTo c item range window → ⊥) → delegateBit (word (c .source) (secondAt item)) ≡ 1 →
+  pub outcome-unmatched : (item : ℕ) → ((range window : Range) → DelegatesTo c item range window → ⊥) → delegateBit (word (c .source) (secondAt item)) ≡ 1 →
       (reason : Reason) × (outcome item ≡ record { received = NullItem reason; effects = [] })
   unfolding itemOf
   outcome-unmatched item other bit =

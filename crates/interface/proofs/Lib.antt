@@ -37,3 +37,4 @@ pub mod RevocationLaws
 pub mod TransferLaws
 pub mod GrantLaws
 pub mod DeliveryLaws
+pub mod ReceivedLaws

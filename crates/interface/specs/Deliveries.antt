@@ -1,22 +1,22 @@
 -- What calls move: CALL's message item by item, offset by offset and word by word, and CREATE_PD's initial range. Each statement stands under one sentence.
-use Prim.Native.Nat.{ℕ, suc, _+_, _-_, _*_, _^_, _<_, min}
+use Prim.Native.Nat.{ℕ, suc, _+_, _-_, _*_, _^_, _≤_, _<_, min}
 use mathlib.Core.Path.{_≡_}
 use mathlib.Core.Bool.{true, false, _&&_}
 use mathlib.Core.List.{List}
 use lib.Bits.{bitAnd}
 use lib.Dec.{eqb}
-use lib.ListN.{take}
+use lib.ListN.{length, take}
 use Rattle.words.specs.Fields.{bits}
-use Rattle.words.specs.Sizes.{placeOf}
+use Rattle.words.specs.Sizes.{placeOf, places}
 use Rattle.words.specs.Ranges.{raised}
 use Rattle.descriptor.specs.declared.Range.{Range}
 use Rattle.descriptor.specs.declared.Reading.the-variants.{Good}
 use Rattle.interface.specs.Basics.{if_then_else_, word}
-use Rattle.interface.specs.Places.{State, live}
-use Rattle.interface.specs.Descriptors.{reading}
+use Rattle.interface.specs.Places.{State, live, nothing}
+use Rattle.interface.specs.Descriptors.{describe, reading, matched}
 use Rattle.interface.specs.Effects.{Effect, run, filled}
 use Rattle.interface.specs.Verdicts.{Call, CALL, callerDomain, grant}
-use Rattle.interface.specs.Message.{itemOf, carried}
+use Rattle.interface.specs.Message.{receivedWord, translateItem, itemOf, carried}
 use Rattle.interface.specs.Rules.{rules, after}
 use Rattle.interface.specs.Consequences.{calleeDomain}
 
@@ -41,6 +41,10 @@ pub record Delegated (before later : State) (destination source mask : ℕ) : Ty
 -- how many items a message has: bits 16 to 31 of the sender's word 0
 abbrev pub itemCount : Call → ℕ
 itemCount c = bits 16 31 (word (c .source) 0)
+
+-- how many untyped words: bits 0 to 15
+abbrev pub untyped : Call → ℕ
+untyped c = bits 0 15 (word (c .source) 0)
 
 -- the two words of an item in the sender's block: from w59, which is word 63, downward, the descriptor first
 abbrev pub firstWord : Call → ℕ → ℕ
@@ -118,3 +122,44 @@ abbrev pub DeliversItems : Type 0
 DeliversItems =
     (s : State) (c : Call) (answer : ℕ) (effects : List Effect) (block : List ℕ) → c .number ≡ CALL → rules s c ≡ grant answer effects block →
     ItemsDelivered s c answer
+
+-- The received block.
+
+-- what the receiver is shown of an item that asks to delegate: nothing where the item does not delegate to a window, or where no offset of it is due; where some is due, the
+-- range that begins at the destination of the first offset, of the smaller order, with the item's mask
+pub record DelegateShown (s : State) (c : Call) (item shown : ℕ) : Type 0 where
+  pub unmatched : ((range window : Range) → DelegatesTo c item range window → ⊥) → shown ≡ 0
+  pub none-due : (range window : Range) → DelegatesTo c item range window →
+      ((offset : ℕ) → offset < offsets range window →
+      Due (before s c item offset .state) (destinationAt s c item range window offset) (sourceAt s c item range window offset) (range .mask) → ⊥) →
+      shown ≡ 0
+  pub some-due : (range window : Range) → DelegatesTo c item range window → (offset : ℕ) → offset < offsets range window →
+      Due (before s c item offset .state) (destinationAt s c item range window offset) (sourceAt s c item range window offset) (range .mask) →
+      shown ≡
+      describe
+      (record { space = range .space; base = hotBase c item range window window; order = min (range .order) (window .order); mask = range .mask })
+
+-- what it is shown of an item that asks to translate: what the rule of translation shows on the state before the item, with the window of the callee's word 1
+abbrev pub TranslateShown : State → Call → (item shown : ℕ) → Type 0
+TranslateShown s c item shown =
+    shown ≡
+    receivedWord
+    (translateItem (before s c item 0 .state) (callerDomain s c) (calleeDomain s c) (matched (reading (firstWord c item)) (reading (word (c .target) 1))) .received)
+
+-- the receiver's block after CALL has 64 words: word 0 is the sender's; words 1 to 3 are its own; then come as many of the sender's as bits 0 to 15 of word 0 say; each item's
+-- two words, from word 63 downward, are what the receiver is shown and bit 0 of the second word; and the words between are its own
+pub record WordsDelivered (s : State) (c : Call) (block : List ℕ) : Type 0 where
+  pub sixty-four : length block ≡ 64
+  pub counts-taken : word block 0 ≡ word (c .source) 0
+  pub windows-kept : (number : ℕ) → 1 ≤ number → number ≤ 3 → word block number ≡ word (c .target) number
+  pub untyped-copied : (number : ℕ) → number < untyped c → word block (4 + number) ≡ word (c .source) (4 + number)
+  pub delegate-shown : (item : ℕ) → item < itemCount c → bits 0 0 (secondWord c item) ≡ 1 → DelegateShown s c item (word block (63 - 2 * item))
+  pub translate-shown : (item : ℕ) → item < itemCount c → bits 0 0 (secondWord c item) ≡ 0 → TranslateShown s c item (word block (63 - 2 * item))
+  pub second-bit : (item : ℕ) → item < itemCount c → word block (62 - 2 * item) ≡ bits 0 0 (secondWord c item)
+  pub others-kept : (number : ℕ) → 4 + untyped c ≤ number → number < 64 - 2 * itemCount c → word block number ≡ word (c .target) number
+
+-- Every CALL that is granted gives the receiver its words so
+abbrev pub DeliversWords : Type 0
+DeliversWords =
+    (s : State) (c : Call) (answer : ℕ) (effects : List Effect) (block : List ℕ) → c .number ≡ CALL → rules s c ≡ grant answer effects block →
+    WordsDelivered s c block

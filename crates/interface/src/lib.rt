@@ -1,7 +1,7 @@
 // The interface as definitions (specs/) and what is proved of them: each function here promises one statement and does nothing, so that its proof is the
 // statement's.
 ghost use Rattle.interface.specs.Consequences.{StaysSound, DamagedExactly, RefusedStays, NothingIsNothing, GrantedWhereDue, AddsNoPermission, RevokesExactly};
-ghost use Rattle.interface.specs.Deliveries.{DeliversItems};
+ghost use Rattle.interface.specs.Deliveries.{DeliversItems, DeliversWords};
 ghost use Rattle.interface.specs.Demand.{Demand3};
 ghost use Rattle.interface.specs.Examples.{WorkedExamples, JournalExample};
 
@@ -48,6 +48,11 @@ pub fn revokes_exactly()
 // CALL delivers its items in turn, each at each of its offsets where the delegation is due and nowhere else, and answers how many places that fills.
 pub fn delivers_items()
     ensures { λ r. ⌜ DeliversItems ⌝ }
+{}
+
+// CALL gives the receiver each of the 64 words of its block: the sender's counts and untyped words, what each item shows, and the rest as it was.
+pub fn delivers_words()
+    ensures { λ r. ⌜ DeliversWords ⌝ }
 {}
 
 // Every worked example follows from the definitions.
