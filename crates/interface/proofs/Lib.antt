@@ -38,3 +38,4 @@ pub mod TransferLaws
 pub mod GrantLaws
 pub mod DeliveryLaws
 pub mod ReceivedLaws
+pub mod InitialLaws

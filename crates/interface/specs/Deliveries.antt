@@ -7,15 +7,16 @@ use lib.Bits.{bitAnd}
 use lib.Dec.{eqb}
 use lib.ListN.{length, take}
 use Rattle.words.specs.Fields.{bits}
-use Rattle.words.specs.Sizes.{placeOf, places}
+use Rattle.words.specs.Sizes.{object, placeOf, domainOf, places}
 use Rattle.words.specs.Ranges.{raised}
 use Rattle.descriptor.specs.declared.Range.{Range}
 use Rattle.descriptor.specs.declared.Reading.the-variants.{Good}
 use Rattle.interface.specs.Basics.{if_then_else_, word}
-use Rattle.interface.specs.Places.{State, live, nothing}
+use Rattle.interface.specs.Places.{State, live, nothing, domainWord, kindOf}
 use Rattle.interface.specs.Descriptors.{describe, reading, matched}
 use Rattle.interface.specs.Effects.{Effect, run, filled}
-use Rattle.interface.specs.Verdicts.{Call, CALL, callerDomain, grant}
+use Rattle.interface.specs.Verdicts.{Call, CALL, CREATE-PD, callerDomain, grant}
+use Rattle.interface.specs.Creations.{freeRecord, nextDomain}
 use Rattle.interface.specs.Message.{receivedWord, translateItem, itemOf, carried}
 use Rattle.interface.specs.Rules.{rules, after}
 use Rattle.interface.specs.Consequences.{calleeDomain}
@@ -163,3 +164,32 @@ abbrev pub DeliversWords : Type 0
 DeliversWords =
     (s : State) (c : Call) (answer : ℕ) (effects : List Effect) (block : List ℕ) → c .number ≡ CALL → rules s c ≡ grant answer effects block →
     WordsDelivered s c block
+
+-- CREATE_PD's initial range.
+
+-- the source at an offset of an initial range, in the caller's domain, and the destination, at the same selector of the domain that the new PD takes
+abbrev pub initialSource : State → Call → Range → ℕ → ℕ
+initialSource s c range offset = placeOf (callerDomain s c) object (range .base + offset)
+
+abbrev pub initialDestination : State → Range → ℕ → ℕ
+initialDestination s range offset = placeOf (nextDomain s) object (range .base + offset)
+
+-- CREATE_PD delivers its initial range, which is one of objects, to the new PD's domain, which was empty: each offset that is due is filled as it should be, and each other place
+-- of the domain stays empty
+pub record RangeDelivered (s : State) (c : Call) : Type 0 where
+  pub new-domain : (kindOf (after s c) (freeRecord s) ≡ 1) × (after s c .objects (freeRecord s) domainWord ≡ nextDomain s)
+  pub was-empty : (place : ℕ) → place < places → domainOf place ≡ nextDomain s → s .caps place ≡ nothing
+  pub of-objects : (range : Range) → reading (c .third) ≡ Good range → range .space ≡ object
+  pub due-filled : (range : Range) → reading (c .third) ≡ Good range → (offset : ℕ) → offset < 2 ^ range .order →
+      Due s (initialDestination s range offset) (initialSource s c range offset) (range .mask) →
+      Delegated s (after s c) (initialDestination s range offset) (initialSource s c range offset) (range .mask)
+  pub others-empty : (place : ℕ) → place < places → domainOf place ≡ nextDomain s →
+      ((range : Range) → reading (c .third) ≡ Good range → (offset : ℕ) → offset < 2 ^ range .order → place ≡ initialDestination s range offset →
+      Due s place (initialSource s c range offset) (range .mask) → ⊥) →
+      after s c .caps place ≡ nothing
+
+-- Every CREATE_PD that is granted delivers its initial range so
+abbrev pub DeliversRange : Type 0
+DeliversRange =
+    (s : State) (c : Call) (answer : ℕ) (effects : List Effect) (block : List ℕ) → c .number ≡ CREATE-PD → rules s c ≡ grant answer effects block →
+    RangeDelivered s c

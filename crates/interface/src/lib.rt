@@ -1,7 +1,7 @@
 // The interface as definitions (specs/) and what is proved of them: each function here promises one statement and does nothing, so that its proof is the
 // statement's.
 ghost use Rattle.interface.specs.Consequences.{StaysSound, DamagedExactly, RefusedStays, NothingIsNothing, GrantedWhereDue, AddsNoPermission, RevokesExactly};
-ghost use Rattle.interface.specs.Deliveries.{DeliversItems, DeliversWords};
+ghost use Rattle.interface.specs.Deliveries.{DeliversItems, DeliversWords, DeliversRange};
 ghost use Rattle.interface.specs.Demand.{Demand3};
 ghost use Rattle.interface.specs.Examples.{WorkedExamples, JournalExample};
 
@@ -53,6 +53,11 @@ pub fn delivers_items()
 // CALL gives the receiver each of the 64 words of its block: the sender's counts and untyped words, what each item shows, and the rest as it was.
 pub fn delivers_words()
     ensures { λ r. ⌜ DeliversWords ⌝ }
+{}
+
+// CREATE_PD delivers its initial range to the new domain, which was empty, at each offset where the delegation is due and nowhere else.
+pub fn delivers_range()
+    ensures { λ r. ⌜ DeliversRange ⌝ }
 {}
 
 // Every worked example follows from the definitions.
