@@ -3,7 +3,7 @@
 ghost use Rattle.interface.specs.Consequences.{StaysSound, DamagedExactly, RefusedStays, NothingIsNothing, GrantedWhereDue, AddsNoPermission, RevokesExactly};
 ghost use Rattle.interface.specs.Deliveries.{DeliversItems, DeliversWords, DeliversRange};
 ghost use Rattle.interface.specs.Demand.{Demand3};
-ghost use Rattle.interface.specs.Examples.{WorkedExamples, JournalExample};
+ghost use Rattle.interface.specs.Examples.{WorkedExamples, MessageExample, JournalExample};
 
 // Demand 3: after any events from boot, the census of a live place shows exactly its heirs, and revoking everything below it empties just those.
 pub fn demand_3()
@@ -63,6 +63,11 @@ pub fn delivers_range()
 // Every worked example follows from the definitions.
 pub fn worked_examples()
     ensures { λ r. ⌜ WorkedExamples ⌝ }
+{}
+
+// One whole message, computed: its answer, the 64 words that the receiver gets, and the places it fills.
+pub fn message_example()
+    ensures { λ r. ⌜ MessageExample ⌝ }
 {}
 
 // The lines of the journal's example follow from the definitions.
