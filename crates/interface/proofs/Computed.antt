@@ -1,20 +1,69 @@
 -- The examples, by computation.
-use mathlib.Core.Path.{refl}
-use Rattle.words.specs.Sizes.{spaceOf}
-use Rattle.descriptor.specs.Descriptors.{wellFormed, wrapped, reading}
+use Prim.Native.Nat.{ℕ}
+use mathlib.Core.Path.{_≡_, refl, ap}
+use mathlib.Core.Bool.{true}
+use mathlib.Core.List.{List, [], _∷_}
+use Rattle.words.specs.Sizes.{memory, placeOf, spaceOf}
+use Rattle.descriptor.specs.Descriptors.{wellFormed, wrapped, reading, matched}
 use Rattle.interface.specs.Basics.{put, listed, allBelow, anyBelow, countBelow, lowest, all, any}
-use Rattle.interface.specs.Boot.{bootRecord, hypervisorCap, rootCap, bootCap}
+use Rattle.interface.specs.Places.{State}
+use Rattle.interface.specs.Boot.{hypervisor, root, bootRecord, hypervisorCap, rootCap, bootCap}
 use Rattle.interface.specs.Damage.{fixed-record, fixed-place, interrupt-rule, unnamed-rule, used-first, pdsBelow, pd-rule, hasPd, isEc, ec-rule, sc-rule, pt-rule, null-place, live-place, shallow, keeps, soundState}
-use Rattle.interface.specs.Effects.{chain, ancestors, below, fills, stripped, cutCaps, act, run}
+use Rattle.interface.specs.Effects.{Effect, give, chain, ancestors, below, fills, stripped, cutCaps, act, run, fillsOne, filled}
+use Rattle.interface.specs.Verdicts.{CALL, grant, replyOf, blockOf}
 use Rattle.interface.specs.Creations.{freeRecord, creation, createSm}
 use Rattle.interface.specs.Lookup.{uniform, largest, around, found, lookup}
+use Rattle.interface.specs.Message.{payloadFits, sourceDomain, delegateItem, firstIn, nearest, common, translates, translateItem, itemOf, untypedCopied, carried}
+use Rattle.interface.specs.PortalCalls.{portalCall}
 use Rattle.interface.specs.Rules.{hypercall, called, rules, after}
 use Rattle.interface.specs.Journal.{bodyBytes, bodyWord, recordedCall, replayFrom, width, spelled, spelledLines}
-use Rattle.interface.specs.Examples.{WorkedExamples, JournalExample}
+use Rattle.interface.specs.Examples.{neighbour, messageCap, messageRecord, messageState, blockBefore, blockReceived, exampleMessage, WorkedExamples, MessageExample, JournalExample}
+use Rattle.interface.proofs.VerdictLaws.{after-granted}
 
 pub computed : WorkedExamples × JournalExample
 unfolding spaceOf wellFormed wrapped reading put listed allBelow anyBelow countBelow lowest all any bootRecord hypervisorCap rootCap bootCap fixed-record fixed-place interrupt-rule unnamed-rule used-first pdsBelow pd-rule hasPd isEc ec-rule sc-rule pt-rule null-place live-place shallow keeps soundState chain ancestors below fills stripped cutCaps act run freeRecord creation createSm uniform largest around found lookup hypercall called rules after bodyBytes bodyWord recordedCall replayFrom width spelled spelledLines
 computed = (
   (refl, (refl, (refl, (refl, (refl, (refl, (refl, (refl, (refl, (refl, (refl, (refl, (refl, (refl, (refl, (refl, (refl, (refl, tt)))))))))))))))))),
   (refl, (refl, tt)),
+)
+
+-- the message: its state is sound, its call comes to these steps, and those leave these places
+abbrev messageGives : List Effect
+messageGives =
+    give (placeOf neighbour memory 44) (placeOf root memory 6) 3 ∷ give (placeOf neighbour memory 45) (placeOf root memory 7) 3 ∷
+    give (placeOf neighbour memory 44) (placeOf hypervisor memory 4) 7 ∷ give (placeOf neighbour memory 45) (placeOf hypervisor memory 5) 7 ∷
+    give (placeOf neighbour memory 46) (placeOf hypervisor memory 6) 7 ∷ give (placeOf neighbour memory 47) (placeOf hypervisor memory 7) 7 ∷ []
+
+message-sound : soundState messageState ≡ true
+unfolding messageCap messageRecord spaceOf allBelow anyBelow countBelow all bootRecord hypervisorCap rootCap bootCap fixed-record fixed-place interrupt-rule unnamed-rule used-first pdsBelow pd-rule hasPd isEc ec-rule sc-rule pt-rule null-place live-place shallow keeps soundState
+message-sound = refl
+
+message-called : called messageState exampleMessage (hypercall CALL) ≡ grant 4 messageGives blockReceived
+unfolding messageCap messageRecord spaceOf wellFormed wrapped reading matched put listed allBelow bootRecord hypervisorCap rootCap bootCap isEc chain ancestors fills act run fillsOne filled payloadFits sourceDomain delegateItem firstIn nearest common translates translateItem itemOf untypedCopied carried portalCall hypercall called
+message-called = refl
+
+message-granted : rules messageState exampleMessage ≡ grant 4 messageGives blockReceived
+unfolding rules
+message-granted = rw message-sound message-called
+
+message-places : (place : ℕ) → after messageState exampleMessage .caps place ≡ run messageGives messageState .caps place
+message-places place = ap (λ (s : State). s .caps place) (after-granted 4 messageGives blockReceived messageState exampleMessage message-granted)
+
+pub computed-message : MessageExample
+unfolding messageCap spaceOf put hypervisorCap bootCap fills act run
+computed-message = (
+  ap replyOf message-granted,
+  (
+    ap (blockOf blockBefore) message-granted,
+    (
+      message-places (placeOf neighbour memory 43),
+      (
+        message-places (placeOf neighbour memory 44),
+        (
+          message-places (placeOf neighbour memory 45),
+          (message-places (placeOf neighbour memory 46), (message-places (placeOf neighbour memory 47), (message-places (placeOf neighbour memory 48), tt))),
+        ),
+      ),
+    ),
+  ),
 )

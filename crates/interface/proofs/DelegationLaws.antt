@@ -6,6 +6,7 @@ use mathlib.Core.Logic.{inl, inr, ⊎-elim}
 use mathlib.Core.List.{List, [], _∷_, _++_}
 use native.Mathlib.Omega.{arith}
 use lib.Dec.{eqb}
+use lib.ListN.{drop}
 use borrow.Author.Tests.{eqb-true, eqb-false}
 use Rattle.words.specs.Sizes.{selectors, domainOf, placeOf}
 use Rattle.words.proofs.BitLaws.{delegated-within-source, delegated-within-mask}
@@ -58,7 +59,7 @@ module _ (destination source mask : ℕ) (s : State) where
   )
 
   -- a filled destination shows what its source hands it
-  give-hands : fills (s .caps) destination source mask ≡ true →
+  pub give-hands : fills (s .caps) destination source mask ≡ true →
       act (give destination source mask) s .caps destination ≡ handed (s .caps source) source mask
   unfolding act
   give-hands f = rw (f, put-same (s .caps) destination (handed (s .caps source) source mask))
@@ -132,10 +133,16 @@ gives-filled {Ask} (gives-more destination source mask {effects} ask others) s p
     let (from, with-mask, step, asked, given) = gives-filled others next place later t in
     (from, with-mask, later-one step, asked, given))
 
--- delegations after delegations, and one for each number below one
+-- delegations after delegations, those without the first ones, and one for each number below one
 gives-append : {Ask : ℕ → ℕ → ℕ → Type 0} {xs ys : List Effect} → OnlyGives Ask xs → OnlyGives Ask ys → OnlyGives Ask (xs ++ ys)
 gives-append gives-none more = more
 gives-append (gives-more destination source mask ask others) more = gives-more destination source mask ask (gives-append others more)
+
+pub gives-drop : {Ask : ℕ → ℕ → ℕ → Type 0} {effects : List Effect} → OnlyGives Ask effects → (n : ℕ) → OnlyGives Ask (drop n effects)
+gives-drop gives-none zero = gives-none
+gives-drop gives-none (suc n) = gives-none
+gives-drop (gives-more destination source mask ask others) zero = gives-more destination source mask ask others
+gives-drop (gives-more destination source mask ask others) (suc n) = gives-drop others n
 
 pub listed-gives : (Ask : ℕ → ℕ → ℕ → Type 0) (n : ℕ) (destination source mask : ℕ → ℕ) → ((i : ℕ) → i < n → Ask (destination i) (source i) (mask i)) →
     OnlyGives Ask (gives destination source mask n)

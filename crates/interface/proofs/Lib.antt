@@ -40,3 +40,6 @@ pub mod RefusalLaws
 pub mod CreationRefusals
 pub mod OtherRefusals
 pub mod CreatedLaws
+pub mod DeliveryLaws
+pub mod ReceivedLaws
+pub mod InitialLaws

@@ -25,12 +25,11 @@ use Rattle.interface.specs.Revoke.{cuts, revoke}
 use Rattle.interface.specs.Lookup.{found, lookup}
 use Rattle.interface.specs.Semaphores.{smCtrl}
 use Rattle.interface.specs.Rules.{hypercall, rules}
-use Rattle.interface.specs.Census.{CensusResult, descendants, counted, census}
+use Rattle.interface.specs.Census.{CensusResult, descendants, counted, censusOf}
 use Rattle.interface.specs.Refusals.{namedPlace, semaphoreCount, CountBecomes, SmCtrlRefusedExactly, LookupRefusedExactly, RevokeRefusedExactly, CensusRefusedExactly}
 use Rattle.interface.proofs.BoolLaws.{cases, either-way}
 use Rattle.interface.proofs.PutLaws.{put-same, put-other}
 use Rattle.interface.proofs.Soundness.{sound-facts}
-use Rattle.interface.proofs.ConsequenceLaws.{census-once}
 use Rattle.interface.proofs.VerdictLaws.{after-granted}
 use Rattle.interface.proofs.CheckLaws.{Decides, decides-at-most, decides-below, decides-some, decides-inside, decides-contrary, Refusal, success-no-refusal, Check, checked, inTurn, Cause, Passed, neither-reply, caused-exactly, each-passed, each-passes, status-among, verdictInTurn, last-stands}
 use Rattle.interface.proofs.RefusalLaws.{by-rule, refused-exactly, granted-exactly, granted-somehow, no-other, decides-holding, passed-grants}
@@ -234,22 +233,22 @@ module _ (tables : Tables) (place : ℕ) (list : List ℕ) (good : sound tables 
   abbrev censusLast : Reply
   censusLast = cond (ltb (length list) heirCount) (Short heirCount) (Success heirCount)
 
-  census-reply : census tables place list .reply ≡ inTurn censusChecks censusLast
-  unfolding counted
-  census-reply = rw (census-once tables place list, good) (outcome-reply (leb places place) (live (shown tables .caps place)) (ltb (length list) heirCount) _ _ _ _)
+  census-reply : censusOf tables place list .reply ≡ inTurn censusChecks censusLast
+  unfolding counted censusOf
+  census-reply = rw good (outcome-reply (leb places place) (live (shown tables .caps place)) (ltb (length list) heirCount) _ _ _ _)
 
-  census-refused : (refusal : Reply) → Refusal refusal → (census tables place list .reply ≡ refusal) ↔ Cause censusChecks refusal
+  census-refused : (refusal : Reply) → Refusal refusal → (censusOf tables place list .reply ≡ refusal) ↔ Cause censusChecks refusal
   census-refused refusal r =
       rw census-reply
       (caused-exactly censusLast refusal
       (neither-reply (ltb (length list) heirCount) (Short heirCount) (Success heirCount) refusal (λ e. short-no-refusal refusal heirCount r (sym e))
       (λ e. success-no-refusal refusal heirCount r (sym e))) r censusChecks)
 
-  census-told : (P : Reply → Type 0) → ((reply : Reply) → Refusal reply → P reply → ⊥) → P (census tables place list .reply) ↔ (Passed censusChecks × P censusLast)
+  census-told : (P : Reply → Type 0) → ((reply : Reply) → Refusal reply → P reply → ⊥) → P (censusOf tables place list .reply) ↔ (Passed censusChecks × P censusLast)
   census-told P none =
       rw census-reply (each-passed P none censusLast censusChecks, λ x. each-passes P none censusLast censusChecks (x .0) (x .1))
 
-  census-status : member (statusOf (census tables place list .reply)) (0 ∷ 4 ∷ 5 ∷ 19 ∷ []) ≡ true
+  census-status : member (statusOf (censusOf tables place list .reply)) (0 ∷ 4 ∷ 5 ∷ 19 ∷ []) ≡ true
   unfolding member any
   census-status =
       rw census-reply
@@ -258,7 +257,7 @@ module _ (tables : Tables) (place : ℕ) (list : List ℕ) (good : sound tables 
       censusChecks refl)
 
   census-tells : (P : Reply → Type 0) (Told : Type 0) → ((reply : Reply) → Refusal reply → P reply → ⊥) → P censusLast ↔ Told →
-      P (census tables place list .reply) ↔ ((place < places) × ((0 < shown tables .caps place .permissions) × Told))
+      P (censusOf tables place list .reply) ↔ ((place < places) × ((0 < shown tables .caps place .permissions) × Told))
   census-tells P Told none told =
       let exactly = census-told P none in (
         λ e. let x = exactly .0 e in (x .0 .0, (x .0 .1, told .0 (x .1))),

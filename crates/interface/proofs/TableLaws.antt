@@ -3,11 +3,13 @@ use Prim.Native.Nat.{ℕ, zero, suc, _+_, _*_, _/_, _%_, _≤_, _<_}
 use mathlib.Core.Path.{_≡_, refl, sym, ap₂, _∙_, subst}
 use mathlib.Core.Bool.{true, false}
 use mathlib.Core.List.{[], _∷_}
+use native.Mathlib.Decide.{le-ind}
+use native.Mathlib.Nat.{le-refl}
 use native.Mathlib.Numerals.{add-one}
 use native.Mathlib.Omega.{arith}
 use lib.Dec.{eqb, ltb}
-use lib.ListN.{length, length-append, List·getD-append, List·getD-eq-default}
-use lib.Seq.{getD-at}
+use lib.ListN.{length, take, length-append, List·getD-append, List·getD-eq-default}
+use lib.Seq.{take-all, take-append-le, getD-at}
 use borrow.Author.Tests.{eq-eqb, ltb-true, ltb-false}
 use Rattle.words.specs.Sizes.{places, placeWords, records, recordWords}
 use Rattle.interface.specs.Basics.{word, listed}
@@ -17,22 +19,30 @@ use Rattle.interface.proofs.BoolLaws.{cases, both}
 use Rattle.interface.proofs.BelowLaws.{below-suc}
 use Rattle.interface.proofs.NoteLaws.{state-same}
 
-module _ (f : ℕ → ℕ) where
+module _ {A : Type 0} (f : ℕ → A) where
   pub length-listed : (n : ℕ) → length (listed n f) ≡ n
   unfolding listed
   length-listed zero = refl
   length-listed (suc n) = simp length-append (rw (length-listed n, add-one))
 
+  -- the first of a function's first values are its first values
+  pub take-listed : (k n : ℕ) → k ≤ n → take k (listed n f) ≡ listed k f
+  unfolding listed
+  take-listed k n l =
+      le-ind (λ (m : ℕ). take k (listed m f) ≡ listed k f) (take-all k (listed k f) (rw (length-listed k) (le-refl k)))
+      (λ m b ih. take-append-le k (listed m f) (f m ∷ []) (rw (length-listed m) b) ∙ ih) n l
+
+module _ (f : ℕ → ℕ) where
   pub word-listed : (n i : ℕ) → i < n → word (listed n f) i ≡ f i
   unfolding listed
   word-listed zero i l = absurd (omega arith)
   word-listed (suc n) i l =
       below-suc i n l
-      (λ (b : i < n). List·getD-append (listed n f) (f n ∷ []) 0 i (rw (length-listed n) b) ∙ word-listed n i b)
-      (λ (e : i ≡ n). rw e (getD-at (listed n f) (f n) [] 0 n (length-listed n)))
+      (λ (b : i < n). List·getD-append (listed n f) (f n ∷ []) 0 i (rw (length-listed f n) b) ∙ word-listed n i b)
+      (λ (e : i ≡ n). rw e (getD-at (listed n f) (f n) [] 0 n (length-listed f n)))
 
   pub word-past : (n i : ℕ) → n ≤ i → word (listed n f) i ≡ 0
-  word-past n i l = List·getD-eq-default (listed n f) 0 (rw (length-listed n) l)
+  word-past n i l = List·getD-eq-default (listed n f) 0 (rw (length-listed f n) l)
 
 -- a state ends where the tables do
 pub record Ends (s : State) : Type 0 where

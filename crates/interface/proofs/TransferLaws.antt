@@ -18,10 +18,10 @@ abbrev pub stateOf : (ℕ → Cap) → (ℕ → ℕ → ℕ) → State
 stateOf caps objects = record { caps = caps; objects = objects }
 
 -- any delegation, and any item that asks for some
-abbrev AnyGive : ℕ → ℕ → ℕ → Type 0
+abbrev pub AnyGive : ℕ → ℕ → ℕ → Type 0
 AnyGive place source mask = Unit {0}
 
-any-item : (sender receiver : ℕ) (source target : List ℕ) (i : ℕ) → ItemAsks AnyGive sender receiver source target i
+pub any-item : (sender receiver : ℕ) (source target : List ℕ) (i : ℕ) → ItemAsks AnyGive sender receiver source target i
 any-item sender receiver source target i item window bit read window-read same place from own inside at to = tt
 
 module _ (objects others : ℕ → ℕ → ℕ) where

@@ -27,6 +27,13 @@ module _ (answer : ℕ) (effects : List Effect) (block : List ℕ) where
         required (isEc s (c .caller)) BadCaller (verdict s c)
         (ap (called s c) (sym e) ∙ required (soundState s) Damaged (called s c (hypercall (c .number))) granted .1) .1
 
+    -- once the state has been found sound and its caller an EC
+    pub rule-checked : (verdict : State → Call → Verdict) → hypercall (c .number) ≡ rule verdict → (soundState s ≡ true) × (isEc s (c .caller) ≡ true)
+    unfolding rules called
+    rule-checked verdict e =
+        let on-sound = required (soundState s) Damaged (called s c (hypercall (c .number))) granted in
+        (on-sound .0, required (isEc s (c .caller)) BadCaller (verdict s c) (ap (called s c) (sym e) ∙ on-sound .1) .0)
+
     -- a granted call takes the steps of its verdict
     pub after-granted : after s c ≡ run effects s
     unfolding after

@@ -1,21 +1,23 @@
--- The worked examples of the interface (docs/INTERFACE.md has them in words), as one list of statements under one name.
-use Prim.Native.Nat.{ℕ, zero, suc}
+-- The worked examples of the interface (docs/INTERFACE.md has them in words), as one list of statements under one name; and one whole message, and the journal's example.
+use Prim.Native.Nat.{ℕ, zero, suc, _+_}
 use mathlib.Core.Path.{_≡_}
 use mathlib.Core.Bool.{Bool, true, false}
 use mathlib.Core.List.{List, [], _∷_}
+use lib.Dec.{eqb}
 use Rattle.words.specs.Sizes.{memory, object, placeOf}
 use Rattle.words.specs.Permissions.{delegated}
 use Rattle.descriptor.specs.declared.Range.{Range}
 use Rattle.descriptor.specs.declared.Reading.the-variants.{Malformed, Good}
 use Rattle.descriptor.specs.declared.Reply.the-variants.{Success}
-use Rattle.interface.specs.Places.{Cap, State, nothing}
-use Rattle.interface.specs.Boot.{boot, hypervisor, root, rootEc}
+use Rattle.interface.specs.Basics.{if_then_else_, word}
+use Rattle.interface.specs.Places.{Cap, State, nothing, parentless, PD, EC, PT}
+use Rattle.interface.specs.Boot.{boot, hypervisor, root, rootEc, bootRecord}
 use Rattle.interface.specs.Descriptors.{typeOf, wordOf, reading}
 use Rattle.interface.specs.Effects.{Effect, give, act, run}
 use Rattle.interface.specs.Revoke.{cuts}
 use Rattle.interface.specs.Message.{delegations}
-use Rattle.interface.specs.Verdicts.{Call, LOOKUP, replyOf}
-use Rattle.interface.specs.Rules.{rules}
+use Rattle.interface.specs.Verdicts.{Call, CALL, LOOKUP, replyOf, blockOf}
+use Rattle.interface.specs.Rules.{rules, after}
 use Rattle.interface.specs.Journal.{done, ended, replay, spelledLines}
 
 -- each of a list of statements
@@ -101,6 +103,89 @@ WorkedExamples =
     ∷  -- the root's LOOKUP after boot: 131199 at 32, 0 at 35
     (replyOf (rules boot (rootLookup 32)) ≡ Success 131199)
     ∷ (replyOf (rules boot (rootLookup 35)) ≡ Success 0)
+    ∷ [])
+
+-- a page that was delegated: its number, its permissions, the place it came from, its depth
+abbrev pub lentPage : ℕ → ℕ → ℕ → ℕ → Cap
+lentPage number permissions source depth = record { resource = number; permissions = permissions; parent = source + 1; depth = depth }
+
+-- after boot the root has made PD 31 of domain 2, EC 32 in it and portal 33 to that, which it holds at selector 40; the hypervisor's pages 6 and 7 have gone to the root's pages 6
+-- and 7, from there to domain 2's pages 20 and 21, and from there back to the root's pages 48 and 49, the first without permission to execute
+unfoldable pub messageCap : ℕ → Cap
+messageCap place =
+    if eqb place (placeOf root object 40) then parentless 33 3 else
+    if eqb place (placeOf root memory 6) then lentPage 6 7 (placeOf hypervisor memory 6) 1 else
+    if eqb place (placeOf root memory 7) then lentPage 7 7 (placeOf hypervisor memory 7) 1 else
+    if eqb place (placeOf neighbour memory 20) then lentPage 6 7 (placeOf root memory 6) 2 else
+    if eqb place (placeOf neighbour memory 21) then lentPage 7 7 (placeOf root memory 7) 2 else
+    if eqb place (placeOf root memory 48) then lentPage 6 3 (placeOf neighbour memory 20) 3 else
+    if eqb place (placeOf root memory 49) then lentPage 7 7 (placeOf neighbour memory 21) 3 else
+    boot .caps place
+
+unfoldable pub messageRecord : ℕ → List ℕ
+messageRecord number =
+    if eqb number 31 then PD ∷ neighbour ∷ [] else
+    if eqb number 32 then EC ∷ neighbour ∷ [] else
+    if eqb number 33 then PT ∷ 32 ∷ [] else
+    bootRecord number
+
+abbrev pub messageState : State
+messageState = record { caps = messageCap; objects = λ number. word (messageRecord number) }
+
+-- the root's message through that portal, of two untyped words (4 and 5) and three items. Item 0 (words 63 and 62) delegates its pages 6 and 7 with mask 3 and hotspot 1048557,
+-- whose last six bits are 45; item 1 (61 and 60) translates its pages 48 and 49 with mask 5; item 2 (59 and 58) delegates the hypervisor's pages 4 to 7 with mask 7 and hotspot 46
+abbrev pub sentBlock : List ℕ
+sentBlock =
+    196610 ∷ 11 ∷ 22 ∷ 33 ∷ 1000 ∷ 2000 ∷ 106 ∷ 107 ∷ 108 ∷ 109 ∷ 110 ∷ 111 ∷ 112 ∷ 113 ∷ 114 ∷ 115 ∷
+    116 ∷ 117 ∷ 118 ∷ 119 ∷ 120 ∷ 121 ∷ 122 ∷ 123 ∷ 124 ∷ 125 ∷ 126 ∷ 127 ∷ 128 ∷ 129 ∷ 130 ∷ 131 ∷
+    132 ∷ 133 ∷ 134 ∷ 135 ∷ 136 ∷ 137 ∷ 138 ∷ 139 ∷ 140 ∷ 141 ∷ 142 ∷ 143 ∷ 144 ∷ 145 ∷ 146 ∷ 147 ∷
+    148 ∷ 149 ∷ 150 ∷ 151 ∷ 152 ∷ 153 ∷ 154 ∷ 155 ∷ 156 ∷ 157 ∷ 190465 ∷ 16669 ∷ 30720 ∷ 196757 ∷ 4294891009 ∷ 24717 ∷ []
+
+-- the callee's block before the call: its window for translations (word 1) is pages 16 to 31, that for delegations (word 2) all pages
+abbrev pub blockBefore : List ℕ
+blockBefore =
+    7 ∷ 66049 ∷ 769 ∷ 99 ∷ 504 ∷ 505 ∷ 506 ∷ 507 ∷ 508 ∷ 509 ∷ 510 ∷ 511 ∷ 512 ∷ 513 ∷ 514 ∷ 515 ∷
+    516 ∷ 517 ∷ 518 ∷ 519 ∷ 520 ∷ 521 ∷ 522 ∷ 523 ∷ 524 ∷ 525 ∷ 526 ∷ 527 ∷ 528 ∷ 529 ∷ 530 ∷ 531 ∷
+    532 ∷ 533 ∷ 534 ∷ 535 ∷ 536 ∷ 537 ∷ 538 ∷ 539 ∷ 540 ∷ 541 ∷ 542 ∷ 543 ∷ 544 ∷ 545 ∷ 546 ∷ 547 ∷
+    548 ∷ 549 ∷ 550 ∷ 551 ∷ 552 ∷ 553 ∷ 554 ∷ 555 ∷ 556 ∷ 557 ∷ 558 ∷ 559 ∷ 560 ∷ 561 ∷ 562 ∷ 563 ∷ []
+
+-- and after it: item 0 shows pages 44 and 45 with mask 3; item 1 shows pages 20 and 21 with mask 5 AND 3 AND 7; item 2 shows pages 44 to 47 with mask 7
+abbrev pub blockReceived : List ℕ
+blockReceived =
+    196610 ∷ 66049 ∷ 769 ∷ 99 ∷ 1000 ∷ 2000 ∷ 506 ∷ 507 ∷ 508 ∷ 509 ∷ 510 ∷ 511 ∷ 512 ∷ 513 ∷ 514 ∷ 515 ∷
+    516 ∷ 517 ∷ 518 ∷ 519 ∷ 520 ∷ 521 ∷ 522 ∷ 523 ∷ 524 ∷ 525 ∷ 526 ∷ 527 ∷ 528 ∷ 529 ∷ 530 ∷ 531 ∷
+    532 ∷ 533 ∷ 534 ∷ 535 ∷ 536 ∷ 537 ∷ 538 ∷ 539 ∷ 540 ∷ 541 ∷ 542 ∷ 543 ∷ 544 ∷ 545 ∷ 546 ∷ 547 ∷
+    548 ∷ 549 ∷ 550 ∷ 551 ∷ 552 ∷ 553 ∷ 554 ∷ 555 ∷ 556 ∷ 557 ∷ 1 ∷ 180509 ∷ 0 ∷ 82053 ∷ 1 ∷ 180365 ∷ []
+
+-- the call: the root's EC sends the message through the portal
+abbrev pub exampleMessage : Call
+exampleMessage =
+    record {
+      number = CALL;
+      caller = rootEc;
+      first = 40;
+      second = 0;
+      third = 0;
+      fourth = 0;
+      fifth = 0;
+      sixth = 0;
+      source = sentBlock;
+      target = blockBefore;
+    }
+
+-- the call succeeds and has filled four places; each of the 64 words is received as above; item 0 has filled pages 44 and 45, so that item 2 fills only 46 and 47, and no page beside
+-- them is filled
+abbrev pub MessageExample : Type 0
+MessageExample =
+    Each
+    ((replyOf (rules messageState exampleMessage) ≡ Success 4)
+    ∷ (blockOf blockBefore (rules messageState exampleMessage) ≡ blockReceived)
+    ∷ (after messageState exampleMessage .caps (placeOf neighbour memory 43) ≡ nothing)
+    ∷ (after messageState exampleMessage .caps (placeOf neighbour memory 44) ≡ lentPage 6 3 (placeOf root memory 6) 2)
+    ∷ (after messageState exampleMessage .caps (placeOf neighbour memory 45) ≡ lentPage 7 3 (placeOf root memory 7) 2)
+    ∷ (after messageState exampleMessage .caps (placeOf neighbour memory 46) ≡ lentPage 6 7 (placeOf hypervisor memory 6) 1)
+    ∷ (after messageState exampleMessage .caps (placeOf neighbour memory 47) ≡ lentPage 7 7 (placeOf hypervisor memory 7) 1)
+    ∷ (after messageState exampleMessage .caps (placeOf neighbour memory 48) ≡ nothing)
     ∷ [])
 
 -- the journal's whole example: CREATE_SM (29, 40, 32, 0), LOOKUP (29, 163843)

@@ -20,5 +20,6 @@ pub mod Demand
 pub mod Consequences
 pub mod Refusals
 pub mod Created
+pub mod Deliveries
 pub mod Journal
 pub mod Examples

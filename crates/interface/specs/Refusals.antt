@@ -22,7 +22,7 @@ use Rattle.interface.specs.Verdicts.{Call, CALL, CREATE-PD, CREATE-EC, C
 use Rattle.interface.specs.Creations.{newPlace, pdPlace, ecPlace}
 use Rattle.interface.specs.Message.{payloadWords, untypedCount, typedCount, itemWords}
 use Rattle.interface.specs.Rules.{rules, after}
-use Rattle.interface.specs.Census.{descendants, census}
+use Rattle.interface.specs.Census.{descendants, censusOf}
 
 -- what holds of every call of a number by an EC on a sound state
 abbrev pub Every : ℕ → (State → Call → Type 0) → Type 0
@@ -210,7 +210,7 @@ pub record RevokeRefusedExactly : Type 0 where
 abbrev pub EveryCensus : (ℕ → List ℕ → Reply → (permissions found : ℕ) → Type 0) → Type 0
 EveryCensus Holding =
     (tables : Tables) (place : ℕ) (list : List ℕ) → sound tables ≡ true →
-    Holding place list (census tables place list .reply) (shown tables .caps place .permissions) (length (descendants (shown tables .caps) place))
+    Holding place list (censusOf tables place list .reply) (shown tables .caps place .permissions) (length (descendants (shown tables .caps) place))
 
 -- The census: BAD_PAR exactly for a place number of 1,536 or more; BAD_CAP exactly for a null place; SHORT with the needed count exactly for a live place and a shorter list;
 -- otherwise SUCCESS with the count of descendants

@@ -3,8 +3,9 @@
 ghost use Rattle.interface.specs.Consequences.{StaysSound, DamagedExactly, RefusedStays, NothingIsNothing, AddsNoPermission, RevokesExactly};
 ghost use Rattle.interface.specs.Refusals.{CallRefusedExactly, CreationsRefusedExactly, SmCtrlRefusedExactly, LookupRefusedExactly, RevokeRefusedExactly, CensusRefusedExactly};
 ghost use Rattle.interface.specs.Created.{CreatedExactly};
+ghost use Rattle.interface.specs.Deliveries.{DeliversItems, DeliversWords, DeliversRange};
 ghost use Rattle.interface.specs.Demand.{Demand3};
-ghost use Rattle.interface.specs.Examples.{WorkedExamples, JournalExample};
+ghost use Rattle.interface.specs.Examples.{WorkedExamples, MessageExample, JournalExample};
 
 // Demand 3: after any events from boot, the census of a live place shows exactly its heirs, and revoking everything below it empties just those.
 pub fn demand_3()
@@ -76,9 +77,29 @@ pub fn created_exactly()
     ensures { λ r. ⌜ CreatedExactly ⌝ }
 {}
 
+// CALL delivers its items in turn, each at each of its offsets where the delegation is due and nowhere else, and answers how many places that fills.
+pub fn delivers_items()
+    ensures { λ r. ⌜ DeliversItems ⌝ }
+{}
+
+// CALL gives the receiver each of the 64 words of its block: the sender's counts and untyped words, what each item shows, and the rest as it was.
+pub fn delivers_words()
+    ensures { λ r. ⌜ DeliversWords ⌝ }
+{}
+
+// CREATE_PD delivers its initial range to the new domain, which was empty, at each offset where the delegation is due and nowhere else.
+pub fn delivers_range()
+    ensures { λ r. ⌜ DeliversRange ⌝ }
+{}
+
 // Every worked example follows from the definitions.
 pub fn worked_examples()
     ensures { λ r. ⌜ WorkedExamples ⌝ }
+{}
+
+// One whole message, computed: its answer, the 64 words that the receiver gets, and the places it fills.
+pub fn message_example()
+    ensures { λ r. ⌜ MessageExample ⌝ }
 {}
 
 // The lines of the journal's example follow from the definitions.
