@@ -1,12 +1,17 @@
 // The interface as definitions (specs/) and what is proved of them: each function here promises one statement and does nothing, so that its proof is the
 // statement's.
 ghost use Rattle.interface.specs.Consequences.{StaysSound, DamagedExactly, RefusedStays, NothingIsNothing, GrantedWhereDue, AddsNoPermission, RevokesExactly};
-ghost use Rattle.interface.specs.Demand.{Demand3};
+ghost use Rattle.interface.specs.Demand.{LastRevokeExists, Demand3};
 ghost use Rattle.interface.specs.Examples.{WorkedExamples, JournalExample};
 
 // Demand 3: after any events from boot, the census of a live place shows exactly its heirs, and revoking everything below it empties just those.
 pub fn demand_3()
     ensures { λ r. ⌜ Demand3 ⌝ }
+{}
+
+// The last REVOKE of demand 3 exists: each place's own descriptor is read as that place.
+pub fn last_revoke_exists()
+    ensures { λ r. ⌜ LastRevokeExists ⌝ }
 {}
 
 // Every event on sound tables leaves sound tables.
