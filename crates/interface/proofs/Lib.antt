@@ -12,6 +12,7 @@ pub mod OneRecord
 pub mod SoundObjects
 pub mod TurnLaws
 pub mod SoundFacts
+pub mod DamageReportLaws
 pub mod RevokeFits
 pub mod SemaphoresFit
 pub mod CreationsFit

@@ -3,6 +3,7 @@ pub mod Basics
 pub mod Places
 pub mod Boot
 pub mod Damage
+pub mod DamageReport
 pub mod Descriptors
 pub mod Effects
 pub mod Verdicts

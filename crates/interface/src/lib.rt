@@ -1,6 +1,7 @@
 // The interface as definitions (specs/) and what is proved of them: each function here promises one statement and does nothing, so that its proof is the
 // statement's.
 ghost use Rattle.interface.specs.Consequences.{StaysSound, DamagedExactly, RefusedStays, NothingIsNothing, GrantedWhereDue, AddsNoPermission, RevokesExactly};
+ghost use Rattle.interface.specs.DamageReport.{DamageNamed};
 ghost use Rattle.interface.specs.Demand.{LastRevokeExists, Demand3};
 ghost use Rattle.interface.specs.Examples.{WorkedExamples, JournalExample};
 
@@ -22,6 +23,11 @@ pub fn stays_sound()
 // A call or a census answers DAMAGED exactly where the tables are not sound, and after any events from boot none does.
 pub fn damaged_exactly()
     ensures { λ r. ⌜ DamagedExactly ⌝ }
+{}
+
+// The damage report names the first rule that is broken, and the lowest record or else the lowest place that breaks it.
+pub fn damage_named()
+    ensures { λ r. ⌜ DamageNamed ⌝ }
 {}
 
 // A refused event changes no word of tables, block or list.
