@@ -102,3 +102,10 @@ module _ (n : ℕ) (test : ℕ → Bool) where
       (λ (t : ltb lowest-failure n ≡ true).
       let l = ltb-true lowest-failure n t in not-both (test lowest-failure) (h lowest-failure l) (failure-fails l))
       (λ (f : ltb lowest-failure n ≡ false). f)
+
+  -- a test that does not hold of all fails somewhere
+  pub all-below-fails : allBelow n test ≡ false → (i : ℕ) × (i < n) × (test i ≡ false)
+  all-below-fails h =
+      cases (ltb lowest-failure n)
+      (λ (t : ltb lowest-failure n ≡ true). let l = ltb-true lowest-failure n t in (lowest-failure, l, failure-fails l))
+      (λ (f : ltb lowest-failure n ≡ false). not-both (allBelow n test) (all-below n test (no-failure f)) h)

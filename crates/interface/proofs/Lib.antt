@@ -13,6 +13,7 @@ pub mod SoundObjects
 pub mod TurnLaws
 pub mod SoundFacts
 pub mod DamageReportLaws
+pub mod TranslationLaws
 pub mod RevokeFits
 pub mod SemaphoresFit
 pub mod CreationsFit

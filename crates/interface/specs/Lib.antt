@@ -12,6 +12,7 @@ pub mod Revoke
 pub mod Lookup
 pub mod Semaphores
 pub mod Message
+pub mod Translations
 pub mod PortalCalls
 pub mod Rules
 pub mod Census

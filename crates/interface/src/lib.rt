@@ -4,6 +4,7 @@ ghost use Rattle.interface.specs.Consequences.{StaysSound, DamagedExactl
 ghost use Rattle.interface.specs.DamageReport.{DamageNamed};
 ghost use Rattle.interface.specs.Demand.{LastRevokeExists, Demand3};
 ghost use Rattle.interface.specs.Examples.{WorkedExamples, JournalExample};
+ghost use Rattle.interface.specs.Translations.{TranslatesExactly};
 
 // Demand 3: after any events from boot, the census of a live place shows exactly its heirs, and revoking everything below it empties just those.
 pub fn demand_3()
@@ -53,6 +54,11 @@ pub fn adds_no_permission()
 // Revocation is exact.
 pub fn revokes_exactly()
     ensures { λ r. ⌜ RevokesExactly ⌝ }
+{}
+
+// Translation is exact: what it shows is where the sender's places came from in the receiver's domain, and it is null exactly where something breaks that.
+pub fn translates_exactly()
+    ensures { λ r. ⌜ TranslatesExactly ⌝ }
 {}
 
 // Every worked example follows from the definitions.
