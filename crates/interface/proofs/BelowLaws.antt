@@ -1,14 +1,14 @@
 -- Laws of what holds below a number: from the test over all to each number, and back.
 use Prim.Native.Nat.{ℕ, zero, suc, _+_, _≤_, _<_}
 use mathlib.Core.Path.{_≡_, refl, _∙_}
-use mathlib.Core.Bool.{Bool, true, false, false≢true}
+use mathlib.Core.Bool.{Bool, true, false, not, false≢true}
 use native.Mathlib.Decide.{le-ind}
 use native.Mathlib.Nat.{add-zero}
 use native.Mathlib.Omega.{arith}
 use lib.Dec.{ltb}
-use borrow.Author.Tests.{ltb-true, ltb-false}
+use borrow.Author.Tests.{ltb-true, ltb-false, not-true, not-false}
 use Rattle.interface.specs.Basics.{allBelow, anyBelow, countBelow, lowest}
-use Rattle.interface.proofs.BoolLaws.{cases, and-left, and-right, both, or-left, or-right, or-not-right}
+use Rattle.interface.proofs.BoolLaws.{cases, not-both, and-left, and-right, both, or-left, or-right, or-not-right}
 
 -- a number below a successor is below the number or is it
 pub below-suc : {C : Type 0} (i n : ℕ) → i < suc n → (i < n → C) → (i ≡ n → C) → C
@@ -95,3 +95,31 @@ below-lowest (suc n) test i h =
     cases (test n) (λ (t : test n ≡ true). let l : i < n = rw (f, t) at h in below-lowest n test i (omega arith))
     (λ (e : test n ≡ false).
     below-suc i n (rw (f, e) at h) (λ (l : i < n). below-lowest n test i (omega arith)) (λ (q : i ≡ n). rw q e)))
+
+-- a test's failures: the lowest is one, and below it the test holds; where none is below the bound, the test holds of all
+module _ (n : ℕ) (test : ℕ → Bool) where
+  abbrev pub lowest-failure : ℕ
+  lowest-failure = lowest n (λ i. not (test i))
+
+  pub failure-fails : lowest-failure < n → test lowest-failure ≡ false
+  failure-fails l = not-true (test lowest-failure) (lowest-holds n (λ i. not (test i)) l)
+
+  pub below-failure : (i : ℕ) → i < lowest-failure → test i ≡ true
+  below-failure i l = not-false (test i) (below-lowest n (λ i. not (test i)) i l)
+
+  pub no-failure : ltb lowest-failure n ≡ false → (i : ℕ) → i < n → test i ≡ true
+  no-failure f i l = below-failure i (omega (arith, ltb-false lowest-failure n f))
+
+  pub all-hold : ((i : ℕ) → i < n → test i ≡ true) → ltb lowest-failure n ≡ false
+  all-hold h =
+      cases (ltb lowest-failure n)
+      (λ (t : ltb lowest-failure n ≡ true).
+      let l = ltb-true lowest-failure n t in not-both (test lowest-failure) (h lowest-failure l) (failure-fails l))
+      (λ (f : ltb lowest-failure n ≡ false). f)
+
+  -- a test that does not hold of all fails somewhere
+  pub all-below-fails : allBelow n test ≡ false → (i : ℕ) × (i < n) × (test i ≡ false)
+  all-below-fails h =
+      cases (ltb lowest-failure n)
+      (λ (t : ltb lowest-failure n ≡ true). let l = ltb-true lowest-failure n t in (lowest-failure, l, failure-fails l))
+      (λ (f : ltb lowest-failure n ≡ false). not-both (allBelow n test) (all-below n test (no-failure f)) h)

@@ -12,18 +12,23 @@ use Rattle.interface.specs.Damage.{fixed-record, fixed-place, interrupt-
 use Rattle.interface.specs.Effects.{Effect, give, chain, ancestors, below, fills, stripped, cutCaps, act, run, fillsOne, filled}
 use Rattle.interface.specs.Verdicts.{CALL, grant, replyOf, blockOf}
 use Rattle.interface.specs.Creations.{freeRecord, creation, createSm}
+use Rattle.interface.specs.Revoke.{revoke}
 use Rattle.interface.specs.Lookup.{uniform, largest, around, found, lookup}
 use Rattle.interface.specs.Message.{payloadFits, sourceDomain, delegateItem, firstIn, nearest, common, translates, translateItem, itemOf, untypedCopied, carried}
 use Rattle.interface.specs.PortalCalls.{portalCall}
 use Rattle.interface.specs.Rules.{hypercall, called, rules, after}
 use Rattle.interface.specs.Journal.{bodyBytes, bodyWord, recordedCall, replayFrom, width, spelled, spelledLines}
-use Rattle.interface.specs.Examples.{neighbour, messageCap, messageRecord, messageState, blockBefore, blockReceived, exampleMessage, WorkedExamples, MessageExample, JournalExample}
+use Rattle.interface.specs.Examples.{Each, calledExamples, neighbour, messageCap, messageRecord, messageState, blockBefore, blockReceived, exampleMessage, WorkedExamples, MessageExample, JournalExample}
 use Rattle.interface.proofs.VerdictLaws.{after-granted}
+
+called-examples : Each calledExamples
+unfolding spaceOf wellFormed wrapped reading put allBelow anyBelow countBelow all any bootRecord hypervisorCap rootCap bootCap fixed-record fixed-place interrupt-rule unnamed-rule used-first pdsBelow pd-rule hasPd isEc ec-rule sc-rule pt-rule null-place live-place shallow keeps soundState chain ancestors below stripped cutCaps act run revoke hypercall called rules after
+called-examples = (refl, (refl, (refl, (refl, (refl, (refl, (refl, (refl, (refl, (refl, (refl, tt)))))))))))
 
 pub computed : WorkedExamples × JournalExample
 unfolding spaceOf wellFormed wrapped reading put listed allBelow anyBelow countBelow lowest all any bootRecord hypervisorCap rootCap bootCap fixed-record fixed-place interrupt-rule unnamed-rule used-first pdsBelow pd-rule hasPd isEc ec-rule sc-rule pt-rule null-place live-place shallow keeps soundState chain ancestors below fills stripped cutCaps act run freeRecord creation createSm uniform largest around found lookup hypercall called rules after bodyBytes bodyWord recordedCall replayFrom width spelled spelledLines
 computed = (
-  (refl, (refl, (refl, (refl, (refl, (refl, (refl, (refl, (refl, (refl, (refl, (refl, (refl, (refl, (refl, (refl, (refl, (refl, tt)))))))))))))))))),
+  (refl, (refl, (refl, (refl, (refl, (refl, (refl, (refl, (refl, (refl, (refl, (refl, (refl, (refl, (refl, (refl, (refl, (refl, (called-examples, tt))))))))))))))))))),
   (refl, (refl, tt)),
 )
 

@@ -1,7 +1,12 @@
--- Demand 3, over any events: the history follows the tables from boot on.
-use Prim.Native.Nat.{ℕ}
+-- Demand 3, over any events: the history follows the tables from boot on; and its last REVOKE exists.
+use Prim.Native.Nat.{ℕ, _%_}
 use mathlib.Core.Path.{_≡_, refl, sym, ap, _∙_, subst}
 use mathlib.Core.List.{List, [], _∷_, _++_}
+use native.Mathlib.Omega.{arith}
+use borrow.Author.Tests.{eq-eqb}
+use Rattle.words.specs.Sizes.{selectorOf}
+use Rattle.words.proofs.PlaceLaws.{space-small, selector-small}
+use Rattle.descriptor.specs.Descriptors.{Proper}
 use Rattle.descriptor.proofs.DescriptorLaws.{range-back}
 use Rattle.interface.specs.Places.{State, Tables, tablesOf}
 use Rattle.interface.specs.Boot.{boot}
@@ -10,7 +15,7 @@ use Rattle.interface.specs.Rules.{rules, after, hypercallTables}
 use Rattle.interface.specs.History.{History, Event, hypercalls, counts, told, tell, toldAll, bootHistory}
 use Rattle.interface.specs.Outcomes.{outcome}
 use Rattle.interface.specs.Census.{censusOf}
-use Rattle.interface.specs.Demand.{tablesAfter, tablesAfterAll, LentOut, fromBoot, historyOf, Demand3, GoesOn, ShowsHeirs}
+use Rattle.interface.specs.Demand.{tablesAfter, tablesAfterAll, onePlace, LastRevokeExists, LentOut, fromBoot, historyOf, Demand3, GoesOn, ShowsHeirs}
 use Rattle.interface.proofs.Soundness.{Sound, sound-facts}
 use Rattle.interface.proofs.RulesFit.{rules-fit}
 use Rattle.interface.proofs.HistoryLaws.{Valid}
@@ -72,4 +77,31 @@ shows-heirs here place list =
     record {
       same-tables = λ events e. e ∙ sym (tables-further events (counts place list) (tablesOf boot));
       counts-heirs = λ events e l t enough. lent-out-here here events e .census-exact place l t list enough;
+    }
+
+-- one place is a proper range
+one-place-proper : (place : ℕ) → Proper (onePlace place)
+one-place-proper place =
+    record {
+      space-small = space-small place;
+      order-small = omega arith;
+      base-aligned = eq-eqb (selectorOf place % 1) 0 (omega arith);
+      ends-inside = omega (arith, selector-small place);
+      mask-small = omega arith;
+    }
+
+pub last-revoke-exists : LastRevokeExists
+last-revoke-exists =
+    record {
+      is-word = λ place l. omega (arith, space-small place, selector-small place);
+      read-as-one = λ place l. range-back (onePlace place) (one-place-proper place);
+      by-any-ec =
+          λ s place ec l e d.
+          record {
+            is-revoke = refl;
+            by-ec = e;
+            of-domain = d;
+            descriptor = range-back (onePlace place) (one-place-proper place);
+            without-self = refl;
+          };
     }

@@ -12,6 +12,8 @@ pub mod OneRecord
 pub mod SoundObjects
 pub mod TurnLaws
 pub mod SoundFacts
+pub mod DamageReportLaws
+pub mod TranslationLaws
 pub mod RevokeFits
 pub mod SemaphoresFit
 pub mod CreationsFit

@@ -1,5 +1,5 @@
 -- Demand 3: what was lent out, over any sequence of events from boot.
-use Prim.Native.Nat.{ℕ, _<_, _≤_}
+use Prim.Native.Nat.{ℕ, _<_, _≤_, _^_}
 use mathlib.Core.Path.{_≡_}
 use mathlib.Core.Bool.{true, _&&_}
 use mathlib.Core.List.{List, [], _∷_, _++_}
@@ -13,7 +13,7 @@ use Rattle.interface.specs.Basics.{if_then_else_, member, rising}
 use Rattle.interface.specs.Places.{State, Tables, live, nothing, domainWord, capAt, tablesOf, shown}
 use Rattle.interface.specs.Boot.{boot}
 use Rattle.interface.specs.Damage.{isEc}
-use Rattle.interface.specs.Descriptors.{reading}
+use Rattle.interface.specs.Descriptors.{describe, reading}
 use Rattle.interface.specs.Verdicts.{Call, REVOKE}
 use Rattle.interface.specs.Rules.{hypercallReply, hypercallBlock, hypercallTables}
 use Rattle.interface.specs.Outcomes.{Outcome}
@@ -44,6 +44,30 @@ pub record RevokesBelow (s : State) (place : ℕ) (c : Call) : Type 0 where
   pub of-domain : s .objects (c .caller) domainWord ≡ domainOf place
   pub descriptor : reading (c .first) ≡ Good (onePlace place)
   pub without-self : c .second ≡ 0
+
+-- the REVOKE of everything below a place by an EC: its descriptor is that of the place alone, its other words are 0, and its blocks are empty
+abbrev pub lastRevoke : ℕ → ℕ → Call
+lastRevoke place ec =
+    record {
+      number = REVOKE;
+      caller = ec;
+      first = describe (onePlace place);
+      second = 0;
+      third = 0;
+      fourth = 0;
+      fifth = 0;
+      sixth = 0;
+      source = [];
+      target = [];
+    }
+
+-- The last REVOKE of demand 3 exists: each place's descriptor of order 0 with all mask bits is a word and is read as that place; so wherever an EC is of the place's domain, its
+-- REVOKE by that descriptor is one of everything below the place
+pub record LastRevokeExists : Type 0 where
+  pub is-word : (place : ℕ) → place < places → describe (onePlace place) < 2 ^ 32
+  pub read-as-one : (place : ℕ) → place < places → reading (describe (onePlace place)) ≡ Good (onePlace place)
+  pub by-any-ec : (s : State) (place ec : ℕ) → place < places → isEc s ec ≡ true → s .objects ec domainWord ≡ domainOf place →
+      RevokesBelow s place (lastRevoke place ec)
 
 -- what tables and a history say of each other
 pub record LentOut (tables : Tables) (h : History) : Type 0 where

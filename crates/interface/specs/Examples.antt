@@ -12,6 +12,7 @@ use Rattle.descriptor.specs.declared.Reply.the-variants.{Success}
 use Rattle.interface.specs.Basics.{if_then_else_, word}
 use Rattle.interface.specs.Places.{Cap, State, nothing, parentless, PD, EC, PT}
 use Rattle.interface.specs.Boot.{boot, hypervisor, root, rootEc, bootRecord}
+use Rattle.interface.specs.Damage.{soundState}
 use Rattle.interface.specs.Descriptors.{typeOf, wordOf, reading}
 use Rattle.interface.specs.Effects.{Effect, give, act, run}
 use Rattle.interface.specs.Revoke.{cuts}
@@ -73,6 +74,56 @@ rootLookup selector =
       target = [];
     }
 
+-- the line of descent as the manual places it, on boot's tables with two more domains: root page 8 (place 200) holds hypervisor page 8 with permissions 7; domain 2's page 8 (place
+-- 392) holds it from there with 3; and domain 3's page 8 (place 584) holds it from domain 2 with 2. Records 31 and 32 are the PDs of domains 2 and 3
+abbrev pub placedLine : State
+placedLine =
+    record {
+      caps =
+          λ place.
+          if eqb place 200 then record { resource = 8; permissions = 7; parent = 9; depth = 1 } else
+          if eqb place 392 then record { resource = 8; permissions = 3; parent = 201; depth = 2 } else
+          if eqb place 584 then record { resource = 8; permissions = 2; parent = 393; depth = 3 } else
+          boot .caps place;
+      objects =
+          λ number.
+          if eqb number 31 then word (1 ∷ 2 ∷ []) else
+          if eqb number 32 then word (1 ∷ 3 ∷ []) else
+          boot .objects number;
+    }
+
+-- REVOKE (29, 32777, self): the root's EC removes mask 2 below root page 8, and with self 1 from it too
+abbrev pub revokeLine : ℕ → Call
+revokeLine self =
+    record { number = 7; caller = 29; first = 32777; second = self; third = 0; fourth = 0; fifth = 0; sixth = 0; source = []; target = [] }
+
+-- what the three places show after it
+abbrev pub lineRevoked : ℕ → List Cap
+lineRevoked self = let later = after placedLine (revokeLine self) in later .caps 200 ∷ later .caps 392 ∷ later .caps 584 ∷ []
+
+-- the examples of the line as calls on sound tables, and those of alignment and order for objects
+abbrev pub calledExamples : List (Type 0)
+calledExamples =
+    ( -- the tables are sound, and the descriptor is read as root page 8 alone with mask 2
+    (soundState placedLine ≡ true)
+    ∷ (reading 32777 ≡ Good (record { space = 0; base = 8; order = 0; mask = 2 }))
+    ∷  -- self 0 succeeds and leaves 7, 1, null
+    (replyOf (rules placedLine (revokeLine 0)) ≡ Success 0)
+    ∷ (lineRevoked 0 ≡
+    record { resource = 8; permissions = 7; parent = 9; depth = 1 } ∷ record { resource = 8; permissions = 1; parent = 201; depth = 2 } ∷ nothing ∷ [])
+    ∷  -- self 1 succeeds and leaves 5, 1, null
+    (replyOf (rules placedLine (revokeLine 1)) ≡ Success 0)
+    ∷ (lineRevoked 1 ≡
+    record { resource = 8; permissions = 5; parent = 9; depth = 1 } ∷ record { resource = 8; permissions = 1; parent = 201; depth = 2 } ∷ nothing ∷ [])
+    ∷  -- the tables stay sound, and hypervisor page 8 keeps its permissions
+    (soundState (after placedLine (revokeLine 1)) ≡ true)
+    ∷ (after placedLine (revokeLine 1) .caps 8 ≡ record { resource = 8; permissions = 7; parent = 0; depth = 0 })
+    ∷  -- of objects too, base 8 of order 3 is good and base 4 malformed, and order 6 at base 0 is good
+    (reading (descriptorWord object 8 3) ≡ Good (record { space = object; base = 8; order = 3; mask = 31 }))
+    ∷ (reading (descriptorWord object 4 3) ≡ Malformed)
+    ∷ (reading (descriptorWord object 0 6) ≡ Good (record { space = object; base = 0; order = 6; mask = 31 }))
+    ∷ [])
+
 -- the worked examples
 abbrev pub WorkedExamples : Type 0
 WorkedExamples =
@@ -103,6 +154,8 @@ WorkedExamples =
     ∷  -- the root's LOOKUP after boot: 131199 at 32, 0 at 35
     (replyOf (rules boot (rootLookup 32)) ≡ Success 131199)
     ∷ (replyOf (rules boot (rootLookup 35)) ≡ Success 0)
+    ∷  -- the line as calls, and objects' alignment and orders
+    Each calledExamples
     ∷ [])
 
 -- a page that was delegated: its number, its permissions, the place it came from, its depth

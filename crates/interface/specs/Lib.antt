@@ -3,6 +3,7 @@ pub mod Basics
 pub mod Places
 pub mod Boot
 pub mod Damage
+pub mod DamageReport
 pub mod Descriptors
 pub mod Effects
 pub mod Verdicts
@@ -11,6 +12,7 @@ pub mod Revoke
 pub mod Lookup
 pub mod Semaphores
 pub mod Message
+pub mod Translations
 pub mod PortalCalls
 pub mod Rules
 pub mod Outcomes

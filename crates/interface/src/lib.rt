@@ -4,12 +4,19 @@ ghost use Rattle.interface.specs.Consequences.{StaysSound, DamagedExactl
 ghost use Rattle.interface.specs.Refusals.{CallRefusedExactly, CreationsRefusedExactly, SmCtrlRefusedExactly, LookupRefusedExactly, RevokeRefusedExactly, CensusRefusedExactly};
 ghost use Rattle.interface.specs.Created.{CreatedExactly};
 ghost use Rattle.interface.specs.Deliveries.{DeliversItems, DeliversWords, DeliversRange};
-ghost use Rattle.interface.specs.Demand.{Demand3};
+ghost use Rattle.interface.specs.Translations.{TranslatesExactly};
+ghost use Rattle.interface.specs.DamageReport.{DamageNamed};
+ghost use Rattle.interface.specs.Demand.{LastRevokeExists, Demand3};
 ghost use Rattle.interface.specs.Examples.{WorkedExamples, MessageExample, JournalExample};
 
 // Demand 3: after any events from boot, the census of a live place shows exactly its heirs, and revoking everything below it empties just those.
 pub fn demand_3()
     ensures { λ r. ⌜ Demand3 ⌝ }
+{}
+
+// The last REVOKE of demand 3 exists: each place's own descriptor is read as that place.
+pub fn last_revoke_exists()
+    ensures { λ r. ⌜ LastRevokeExists ⌝ }
 {}
 
 // Every event on sound tables leaves sound tables.
@@ -20,6 +27,11 @@ pub fn stays_sound()
 // A call or a census answers DAMAGED exactly where the tables are not sound, and after any events from boot none does.
 pub fn damaged_exactly()
     ensures { λ r. ⌜ DamagedExactly ⌝ }
+{}
+
+// The damage report names the first rule that is broken, and the lowest record or else the lowest place that breaks it.
+pub fn damage_named()
+    ensures { λ r. ⌜ DamageNamed ⌝ }
 {}
 
 // A refused event changes no word of tables, block or list.
@@ -90,6 +102,11 @@ pub fn delivers_words()
 // CREATE_PD delivers its initial range to the new domain, which was empty, at each offset where the delegation is due and nowhere else.
 pub fn delivers_range()
     ensures { λ r. ⌜ DeliversRange ⌝ }
+{}
+
+// Translation is exact: what it shows is where the sender's places came from in the receiver's domain, and it is null exactly where something breaks that.
+pub fn translates_exactly()
+    ensures { λ r. ⌜ TranslatesExactly ⌝ }
 {}
 
 // Every worked example follows from the definitions.
