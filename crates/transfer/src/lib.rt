@@ -9,7 +9,7 @@ ghost use Rattle.words.specs.Ranges.{rounded};
 ghost use Rattle.descriptor.specs.declared.Range.{Range};
 ghost use Rattle.descriptor.specs.declared.Match.the-variants.{Both};
 ghost use Rattle.descriptor.specs.declared.Received.the-variants.{Shows};
-ghost use Rattle.descriptor.specs.Descriptors.{describe, reading, matched, Proper};
+ghost use Rattle.descriptor.specs.Descriptors.{null, describe, reading, matched, Proper};
 ghost use Rattle.interface.specs.Basics.{if_then_else_};
 ghost use Rattle.interface.specs.Places.{capAt};
 ghost use Rattle.interface.specs.Message.{headWords, untypedCount, typedCount, payloadFits, untypedPart, receivedWord, sourceDomain, delegations, delegateItem, nearest, senderPlace, translateItem, untypedCopied, transfer};
@@ -51,7 +51,14 @@ struct Outcome {
 }
 
 // An item of which the receiver is shown nothing.
-const NULL_ITEM: Outcome = Outcome { word: 0, filled: 0 };
+fn null_item() -> Outcome
+    ensures { λ r. ⌜ r ≡ record { word = null; filled = 0 } ⌝ }
+{
+    Outcome {
+        word: Descriptor::NULL.word(),
+        filled: 0,
+    }
+}
 
 // How many untyped words word 0 says.
 fn untyped_count(word0: u32) -> u32
@@ -257,7 +264,7 @@ fn received_word(received: Received) -> u32
     ensures { λ r. ⌜ r ≡ receivedWord received ⌝ }
 {
     match received {
-        Received::NullItem(_) => 0,
+        Received::NullItem(_) => Descriptor::NULL.word(),
         Received::Shows(range) => word_of(range),
     }
 }
@@ -295,7 +302,7 @@ fn delegate_item(
         window,
     );
     if filled == 0 {
-        return NULL_ITEM;
+        return null_item();
     }
     Outcome {
         word: word_of(destination(hotspot, item, window)),
@@ -327,7 +334,7 @@ fn item(
 {
     if second % 2 == 1 {
         return match matching(descriptor, delegating) {
-            Match::Neither(_) => NULL_ITEM,
+            Match::Neither(_) => null_item(),
             Match::Both(range, window) => delegate_item(
                 table,
                 sender,
@@ -339,7 +346,7 @@ fn item(
         };
     }
     match matching(descriptor, translating) {
-        Match::Neither(_) => NULL_ITEM,
+        Match::Neither(_) => null_item(),
         Match::Both(range, window) => Outcome {
             word: received_word(translate(table, sender, receiver, range, window)),
             filled: 0,
