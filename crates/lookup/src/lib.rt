@@ -68,7 +68,7 @@ fn largest_order(places: &[u32], place: Place) -> u32
     0
 }
 
-// The descriptor of the largest range around a range's base, or 0 where nothing is held there. A space begins at a multiple of its size, so places round as selectors do.
+// The descriptor of the largest range around a range's base, or the null descriptor where nothing is held there. A space begins at a multiple of its size, so places round as selectors do.
 fn found(places: &[u32], domain: u32, range: Range) -> u32
     requires { ⌜ Sized (now places) × (domain < domains) × Proper range × ((p : ℕ) → p < placeCount → capAt (now places) p .permissions < 2 ^ 5) ⌝ }
     ensures { λ r. ⌜ ((objects : List ℕ) → r ≡ foundRange (view (now (places .entry)) objects) domain (Good range)) ⌝ }
@@ -77,20 +77,20 @@ fn found(places: &[u32], domain: u32, range: Range) -> u32
     let base = Place::of(domain, space, range.at(0));
     let cap = places::load(places, base);
     if !places::is_live(cap) {
-        return 0;
+        return Descriptor::NULL.word();
     }
     let order = largest_order(places, base);
     let first = Place::nth(ranges::round_down(order, base.number()));
     Descriptor::of(space, first.selector(), order, cap.permissions).word()
 }
 
-// LOOKUP on sound tables: the largest range around a descriptor's base, as a descriptor, or 0 where nothing is held there.
+// LOOKUP on sound tables: the largest range around a descriptor's base, as a descriptor, or the null descriptor where nothing is held there.
 pub fn look_up(caller: ObjectNumber, descriptor: u32, places: &[u32], objects: &[u32]) -> Reply
     requires { ⌜ Called (now places) (now objects) (caller .0) ⌝ }
     ensures { λ r. ⌜ ((c : Call) → c .caller ≡ caller .0 → c .first ≡ descriptor → r ≡ replyOf (lookup (view (now (places .entry)) (now (objects .entry))) c)) ⌝ }
 {
     match Descriptor::from_word(descriptor).read() {
-        Reading::Null => Reply::Success(0),
+        Reading::Null => Reply::Success(Descriptor::NULL.word()),
         Reading::Malformed => Reply::BadPar,
         Reading::Good(range) => {
             let domain = capabilities::domain(places, objects, caller);

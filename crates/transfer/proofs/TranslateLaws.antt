@@ -1,14 +1,14 @@
 -- Laws of translating an item: the nearest ancestor lies in the receiver's domain and in the item's space, and what each way out of the search says of the definition.
 use Prim.Native.Nat.{ℕ, zero, suc, _+_, _-_, _*_, _^_, _≤_, _<_}
 use mathlib.Core.Path.{_≡_, refl, sym, _∙_}
-use mathlib.Core.Bool.{Bool, true, false, not, _&&_, _||_, and-assoc}
+use mathlib.Core.Bool.{Bool, true, false, not, _&&_, and-assoc}
 use mathlib.Core.List.{List, [], _∷_}
 use native.Mathlib.Numerals.{add-one}
 use native.Mathlib.Omega.{arith}
 use lib.Dec.{eqb, leb, ltb}
 use lib.Pow.{pow-pos}
-use borrow.Author.Tests.{eqb-true, eqb-false, eq-eqb, leb-true, ltb-true, ltb-false, le-ltb, not-true, not-false}
-use Rattle.words.specs.Sizes.{domains, selectors, stride, places, placeOf, domainOf, spaceOf, selectorOf}
+use borrow.Author.Tests.{eqb-true, eqb-false, eq-eqb, leb-true, le-leb, ltb-true, lt-ltb, not-true, not-false}
+use Rattle.words.specs.Sizes.{domains, memory, selectors, stride, places, placeOf, domainOf, spaceOf, selectorOf}
 use Rattle.words.specs.Permissions.{delegated}
 use Rattle.words.specs.Ranges.{aligned}
 use Rattle.words.proofs.PlaceLaws.{is-place, space-back, selector-small, made-so}
@@ -18,16 +18,16 @@ use Rattle.descriptor.specs.declared.Received.{Received}
 use Rattle.descriptor.specs.declared.Received.the-variants.{NullItem, Shows}
 use Rattle.descriptor.specs.declared.Reason.the-variants.{TranslationBroke}
 use Rattle.descriptor.specs.Descriptors.{Proper}
-use Rattle.interface.specs.Basics.{allBelow}
+use Rattle.interface.specs.Basics.{if_then_else_, allBelow}
 use Rattle.interface.specs.Places.{Cap, capAt}
 use Rattle.interface.specs.Effects.{chain, ancestors, among}
 use Rattle.interface.specs.Message.{nearest, common, inside, senderPlace, ancestorAt, translatedBase, translates, translateItem}
-use Rattle.interface.proofs.BoolLaws.{cases, not-both, and-left, and-right, both, or-not-right, or-none-left, or-none-right}
+use Rattle.interface.proofs.BoolLaws.{cases, not-both, and-left, and-right, both, each-of-four}
 use Rattle.interface.proofs.BelowLaws.{all-below-at, all-below, below-suc}
 use Rattle.places.specs.Table.{Sized}
 use Rattle.tree.specs.Walks.{Linked, firstAmong, placesOnly}
 use Rattle.tree.proofs.LinkLaws.{nearest-first-among}
-use Rattle.transfer.specs.Typed.{Matched}
+use Rattle.transfer.specs.Typed.{Matched, liesThere}
 
 -- what a walk finds is among the places it looks for
 found-among : (first size : ℕ) (list : List ℕ) (r : ℕ) → firstAmong first size list ≡ suc r → (first ≤ r) × (r < first + size)
@@ -81,7 +81,7 @@ nearest-small caps domain place d = go (nearest caps domain place) refl
         let inside = found-among (domain * stride) stride (ancestors caps place) r (sym (nearest-first-among caps domain place) ∙ e) in
         omega arith
 
--- what the definition says of the sender's places in turn: their ancestors stand in a line from the first on
+-- what the definition says of the sender's places in turn
 module _ (caps : ℕ → Cap) (sender receiver : ℕ) (item window : Range) where
   abbrev base : ℕ
   base = translatedBase caps sender receiver item
@@ -96,55 +96,52 @@ module _ (caps : ℕ → Cap) (sender receiver : ℕ) (item window : Range) wher
   unfolding translates
   translates-parts = and-assoc (allBelow (2 ^ item .order) in-place) (aligned (item .order) base) (inside base (item .order) window)
 
+  -- ancestors that stand in a line from an aligned base on, inside the window, are what the definition asks for
+  line-stands : ((i : ℕ) → i < 2 ^ item .order → ancestorAt caps sender receiver item i ≡ placeOf receiver (item .space) (base + i) + 1) →
+      aligned (item .order) base ≡ true → window .base ≤ base → base + 2 ^ item .order ≤ window .base + 2 ^ window .order →
+      translates caps sender receiver item window ≡ true
+  line-stands line a from to =
+      translates-parts ∙
+      both (allBelow (2 ^ item .order) in-place) fitting
+      (all-below (2 ^ item .order) in-place
+      (λ i l. eq-eqb (ancestorAt caps sender receiver item i) (placeOf receiver (item .space) (base + i) + 1) (line i l)))
+      (both (aligned (item .order) base) (inside base (item .order) window) a
+      (both (leb (window .base) base) (leb (base + 2 ^ item .order) (window .base + 2 ^ window .order)) (le-leb _ _ from) (le-leb _ _ to)))
+
   module _ (t : translates caps sender receiver item window ≡ true) where
     stands : (i : ℕ) → i < 2 ^ item .order → ancestorAt caps sender receiver item i ≡ placeOf receiver (item .space) (base + i) + 1
     stands i l =
         eqb-true (ancestorAt caps sender receiver item i) (placeOf receiver (item .space) (base + i) + 1)
         (all-below-at (2 ^ item .order) in-place (and-left (allBelow (2 ^ item .order) in-place) fitting (sym translates-parts ∙ t)) i l)
 
-    in-line : (i : ℕ) → i < 2 ^ item .order → ancestorAt caps sender receiver item i ≡ ancestorAt caps sender receiver item 0 + i
-    in-line i l = omega (arith, stands i l, stands 0 (pow-pos (item .order)))
-
-    some-ancestor : ancestorAt caps sender receiver item 0 ≡ 0 → ⊥
-    some-ancestor e = omega (arith, stands 0 (pow-pos (item .order)))
-
     fits-there : fitting ≡ true
     fits-there = and-right (allBelow (2 ^ item .order) in-place) fitting (sym translates-parts ∙ t)
 
-    -- the range that it shows is aligned and ends with the window at the latest
+    -- the range that it shows is aligned, and begins and ends inside the window
     pub shown-aligned : aligned (item .order) (translatedBase caps sender receiver item) ≡ true
     shown-aligned = and-left (aligned (item .order) base) (inside base (item .order) window) fits-there
 
-    pub shown-ends : translatedBase caps sender receiver item + 2 ^ item .order ≤ window .base + 2 ^ window .order
-    shown-ends =
-        let ends = leb (base + 2 ^ item .order) (window .base + 2 ^ window .order) in
-        leb-true (base + 2 ^ item .order) (window .base + 2 ^ window .order)
-        (and-right (leb (window .base) base) ends (and-right (aligned (item .order) base) (inside base (item .order) window) fits-there))
+    shown-inside : inside base (item .order) window ≡ true
+    shown-inside = and-right (aligned (item .order) base) (inside base (item .order) window) fits-there
 
-  -- the first ancestor is the place of its selector
+    shown-begins : window .base ≤ translatedBase caps sender receiver item
+    shown-begins = leb-true _ _ (and-left (leb (window .base) base) (leb (base + 2 ^ item .order) (window .base + 2 ^ window .order)) shown-inside)
+
+    pub shown-ends : translatedBase caps sender receiver item + 2 ^ item .order ≤ window .base + 2 ^ window .order
+    shown-ends = leb-true _ _ (and-right (leb (window .base) base) (leb (base + 2 ^ item .order) (window .base + 2 ^ window .order)) shown-inside)
+
+  -- an ancestor is the place of its selector
   module _ (linked : Linked caps) (small : sender < domains) (proper : Proper item) where
-    first-place : (r : ℕ) → ancestorAt caps sender receiver item 0 ≡ suc r → placeOf receiver (item .space) (selectorOf r) ≡ r
-    first-place r e =
-        let inside-space : item .base + 0 < selectors (item .space) = omega (arith, proper .ends-inside, pow-pos (item .order)) in
-        let there = nearest-place caps linked receiver (senderPlace sender item 0) r (is-place sender (item .space) (item .base + 0) small (proper .space-small) inside-space) e in
-        let same : spaceOf r ≡ item .space = there .1 ∙ space-back sender (item .space) (item .base + 0) (proper .space-small) inside-space in
+    ancestor-place : (i r : ℕ) → i < 2 ^ item .order → ancestorAt caps sender receiver item i ≡ suc r → placeOf receiver (item .space) (selectorOf r) ≡ r
+    ancestor-place i r l e =
+        let inside-space : item .base + i < selectors (item .space) = omega (arith, proper .ends-inside) in
+        let there = nearest-place caps linked receiver (senderPlace sender item i) r (is-place sender (item .space) (item .base + i) small (proper .space-small) inside-space) e in
+        let same : spaceOf r ≡ item .space = there .1 ∙ space-back sender (item .space) (item .base + i) (proper .space-small) inside-space in
         rw (sym (there .0), sym same) (made-so r)
 
-    line-stands : (r : ℕ) → ancestorAt caps sender receiver item 0 ≡ suc r →
-        ((i : ℕ) → i < 2 ^ item .order → ancestorAt caps sender receiver item i ≡ suc r + i) → fitting ≡ true → translates caps sender receiver item window ≡ true
-    line-stands r e line fit =
-        let back : suc r - 1 ≡ r = omega arith in
-        let is-base : base ≡ selectorOf r = rw (e, back) in
-        translates-parts ∙
-        both (allBelow (2 ^ item .order) in-place) fitting
-        (all-below (2 ^ item .order) in-place
-        (λ i l.
-        eq-eqb (ancestorAt caps sender receiver item i) (placeOf receiver (item .space) (base + i) + 1)
-        (rw is-base (omega (arith, line i l, first-place r e)))))
-        fit
-
--- where a search stands: the ancestors of the offsets below the present one are in a line, and the mask has what all of their places permit
-pub record Searching (table : List ℕ) (sender receiver : ℕ) (item window : Range) (order size first mask i : ℕ) : Type 0 where
+-- where a search stands: the ancestors of the offsets below the present one lie in a line from the base on, which may begin there and lies inside the window so far, and the mask has
+-- what all of their places permit
+pub record Searching (table : List ℕ) (sender receiver : ℕ) (item window : Range) (order size base mask i : ℕ) : Type 0 where
   pub sized : Sized table
   pub linked : Linked (capAt table)
   pub sender-small : sender < domains
@@ -152,19 +149,22 @@ pub record Searching (table : List ℕ) (sender receiver : ℕ) (item window : R
   pub matched : Matched item window
   pub is-order : order ≡ item .order
   pub is-size : size ≡ 2 ^ item .order
-  pub is-first : first ≡ ancestorAt (capAt table) sender receiver item 0
-  pub first-small : first ≤ places
   pub inside-range : i ≤ size
-  pub in-turn : (k : ℕ) → k < i → ancestorAt (capAt table) sender receiver item k ≡ first + k
+  pub base-small : base < selectors memory
+  pub is-base : 0 < i → base ≡ translatedBase (capAt table) sender receiver item
+  pub in-turn : (k : ℕ) → k < i → ancestorAt (capAt table) sender receiver item k ≡ placeOf receiver (item .space) (translatedBase (capAt table) sender receiver item + k) + 1
+  pub may-begin : 0 < i → aligned (item .order) (translatedBase (capAt table) sender receiver item) ≡ true
+  pub begins-inside : 0 < i → window .base ≤ translatedBase (capAt table) sender receiver item
+  pub ends-inside : 0 < i → translatedBase (capAt table) sender receiver item + i ≤ window .base + 2 ^ window .order
   pub is-mask : mask ≡ common (item .mask) i (λ k. capAt table (senderPlace sender item k))
 
 -- before any offset is done, with the numbers as the code makes them
-pub search-begins : {table : List ℕ} {sender receiver : ℕ} {item window : Range} {order size first mask place : ℕ} →
+pub search-begins : {table : List ℕ} {sender receiver : ℕ} {item window : Range} {order size base mask : ℕ} →
     Sized table × Linked (capAt table) × (sender < domains) × (receiver < domains) × Matched item window → order ≡ item .order → size ≡ 2 ^ order →
-    (place ≡ senderPlace sender item 0) × (place < places) → (first ≡ nearest (capAt table) receiver place) × (first ≤ places) → mask ≡ item .mask →
-    Searching table sender receiver item window order size first mask 0
+    (base ≡ item .base + 0) × (base < selectors (item .space)) → mask ≡ item .mask →
+    Searching table sender receiver item window order size base mask 0
 unfolding common
-search-begins pre o z p f m =
+search-begins pre o z b m =
     record {
       sized = pre .0;
       linked = pre .1;
@@ -173,17 +173,23 @@ search-begins pre o z p f m =
       matched = pre .4;
       is-order = o;
       is-size = rw o at z;
-      is-first = rw (p .0) at (f .0);
-      first-small = f .1;
       inside-range = omega arith;
+      base-small = omega arith;
+      is-base = λ l. absurd (omega arith);
       in-turn = λ k l. absurd (omega arith);
+      may-begin = λ l. absurd (omega arith);
+      begins-inside = λ l. absurd (omega arith);
+      ends-inside = λ l. absurd (omega arith);
       is-mask = m;
     }
 
-module _ {table : List ℕ} {sender receiver : ℕ} {item window : Range} {order size first mask i : ℕ}
-    (s : Searching table sender receiver item window order size first mask i) where
+module _ {table : List ℕ} {sender receiver : ℕ} {item window : Range} {order size base mask i : ℕ}
+    (s : Searching table sender receiver item window order size base mask i) where
   abbrev answer : Received
   answer = translateItem (placesOnly table) sender receiver (Both item window) .received
+
+  abbrev shown : ℕ
+  shown = translatedBase (capAt table) sender receiver item
 
   broken : translates (capAt table) sender receiver item window ≡ false → NullItem TranslationBroke ≡ answer
   unfolding translateItem
@@ -194,78 +200,100 @@ module _ {table : List ℕ} {sender receiver : ℕ} {item window : Range} {order
       cases (translates (capAt table) sender receiver item window)
       (λ (t : translates (capAt table) sender receiver item window ≡ true). absurd (n t)) broken
 
-  -- no ancestor at all
-  pub search-none : (eqb first 0 || ltb i size) ≡ true → size ≤ i → NullItem TranslationBroke ≡ answer
-  search-none t l =
-      let none : first ≡ 0 = eqb-true first 0 (or-not-right (eqb first 0) (ltb i size) t (le-ltb i size l)) in
-      broken-unless (λ y. some-ancestor (capAt table) sender receiver item window y (sym (s .is-first) ∙ none))
+  -- what is found at the present offset
+  module _ {place found : ℕ} (l : i < size) (p : place ≡ senderPlace sender item i) (f : found ≡ nearest (capAt table) receiver place) where
+    in-range : i < 2 ^ item .order
+    in-range = rw (s .is-size) at l
 
-  -- one that is not in the line
-  pub search-broken : {place found : ℕ} → i < size → place ≡ senderPlace sender item i → found ≡ nearest (capAt table) receiver place →
-      (found ≡ first + i → ⊥) → NullItem TranslationBroke ≡ answer
-  search-broken {place} {found} l p f n =
-      broken-unless
-      (λ y.
-      n (f ∙ rw (p, s .is-first) (in-line (capAt table) sender receiver item window y i (rw (s .is-size) at l))))
+    is-ancestor : found ≡ ancestorAt (capAt table) sender receiver item i
+    is-ancestor = rw p at f
 
-  -- one more in the line
-  pub search-on : {place found next : ℕ} {cap : Cap} → i < size → place ≡ senderPlace sender item i → found ≡ nearest (capAt table) receiver place →
-      found ≡ first + i → cap ≡ capAt table place → next ≡ delegated mask (cap .permissions) →
-      Searching table sender receiver item window order size first next (i + 1)
-  unfolding common
-  search-on {place} {found} {next} {cap} l p f e is-cap m =
-      record {
-        sized = s .sized;
-        linked = s .linked;
-        sender-small = s .sender-small;
-        receiver-small = s .receiver-small;
-        matched = s .matched;
-        is-order = s .is-order;
-        is-size = s .is-size;
-        is-first = s .is-first;
-        first-small = s .first-small;
-        inside-range = omega arith;
-        in-turn =
-            λ k b.
-            below-suc k i (omega arith) (s .in-turn k)
-            (λ (same : k ≡ i). rw same (rw p at (sym f ∙ e)));
-        is-mask = rw (add-one i, sym (s .is-mask), sym p) (rw is-cap at m);
-      }
+    -- no ancestor
+    pub search-none : found ≡ 0 → NullItem TranslationBroke ≡ answer
+    search-none none =
+        broken-unless (λ y. omega (arith, stands (capAt table) sender receiver item window y i in-range, is-ancestor))
 
-  -- the range from the selector of a place on ends below the greatest word
-  pub search-bounds : (place : ℕ) {number selected : ℕ} → number ≡ selected → selected ≡ selectorOf place → number + 2 ^ order < 2 ^ 32
-  search-bounds place {number} {selected} n e =
-      rw (n, e, s .is-order) (omega (arith, selector-small place, s .matched .item-proper .ends-inside))
+    -- one, with its selector and the base that the search goes on with
+    module _ {nth selected next : ℕ} (some : found ≡ 0 → ⊥) (n : nth ≡ found - 1) (e : selected ≡ selectorOf nth) (b : next ≡ (if eqb i 0 then selected else base)) where
+      found-place : placeOf receiver (item .space) selected + 1 ≡ ancestorAt (capAt table) sender receiver item i
+      found-place =
+          let is-suc : ancestorAt (capAt table) sender receiver item i ≡ suc nth = omega (arith, is-ancestor) in
+          rw (is-suc, e, ancestor-place (capAt table) sender receiver item window (s .linked) (s .sender-small) (s .matched .item-proper) i nth in-range is-suc) (omega arith)
 
-  -- every one is in the line
-  module _ (f : (eqb first 0 || ltb i size) ≡ false) where
-    pub search-found : 0 < first
-    search-found = let some = eqb-false first 0 (or-none-left (eqb first 0) (ltb i size) f) in omega arith
+      next-base : next ≡ shown
+      next-base =
+          cases (eqb i 0)
+          (λ (t : eqb i 0 ≡ true).
+          let zero-offset : i ≡ 0 = eqb-true i 0 t in
+          let is-selected : next ≡ selected = rw t at b in
+          is-selected ∙ e ∙ rw (n, is-ancestor, zero-offset))
+          (λ (g : eqb i 0 ≡ false).
+          let is-old : next ≡ base = rw g at b in
+          let later = eqb-false i 0 g in
+          is-old ∙ s .is-base (omega arith))
 
-    search-ended : i ≡ size
-    search-ended = omega (arith, ltb-false i size (or-none-right (eqb first 0) (ltb i size) f))
+      pub next-small : next < selectors memory
+      next-small = rw next-base (omega (arith, selector-small (ancestorAt (capAt table) sender receiver item 0 - 1)))
 
-    module _ {nth selected number : ℕ} {lies : Bool} (n : nth ≡ first - 1) (e : selected ≡ selectorOf nth) (m : number ≡ selected)
-        (is-lies : lies ≡ (aligned order number && inside number order window)) where
-      is-fitting : lies ≡ fitting (capAt table) sender receiver item window
-      is-fitting = is-lies ∙ rw (m, e, n, s .is-first, s .is-order)
+      module _ {number start : ℕ} {lies : Bool} (is-number : number ≡ selected) (is-start : start ≡ next) (is-lies : lies ≡ liesThere number start order i window) where
+        lies-as-shown : lies ≡ liesThere selected shown (item .order) i window
+        lies-as-shown = is-lies ∙ rw (is-number, is-start, next-base, s .is-order)
 
-      pub search-outside : not lies ≡ true → NullItem TranslationBroke ≡ answer
-      search-outside o =
-          broken-unless
-          (λ y.
-          not-both (fitting (capAt table) sender receiver item window) (fits-there (capAt table) sender receiver item window y)
-          (sym is-fitting ∙ not-true lies o))
+        -- it lies elsewhere
+        pub search-elsewhere : not lies ≡ true → NullItem TranslationBroke ≡ answer
+        unfolding liesThere
+        search-elsewhere o =
+            broken-unless
+            (λ y.
+            let there : selected ≡ shown + i = omega (arith, found-place, stands (capAt table) sender receiver item window y i in-range) in
+            let from : window .base ≤ selected = omega (arith, shown-begins (capAt table) sender receiver item window y) in
+            let to : selected < window .base + 2 ^ window .order = omega (arith, in-range, shown-ends (capAt table) sender receiver item window y) in
+            not-both lies
+            (lies-as-shown ∙
+            both (eqb selected (shown + i) && aligned (item .order) shown && leb (window .base) selected) (ltb selected (window .base + 2 ^ window .order))
+            (both (eqb selected (shown + i) && aligned (item .order) shown) (leb (window .base) selected)
+            (both (eqb selected (shown + i)) (aligned (item .order) shown) (eq-eqb selected (shown + i) there) (shown-aligned (capAt table) sender receiver item window y))
+            (le-leb _ _ from))
+            (lt-ltb _ _ to))
+            (not-true lies o))
 
-      pub search-shows : {space : ℕ} {range : Range} → not lies ≡ false → space ≡ item .space →
-          range ≡ record { space = space; base = selected; order = order; mask = mask } → Shows range ≡ answer
-      unfolding translateItem
-      search-shows {space} {range} o is-space is-range =
-          let r = first - 1 in
-          let is-suc : ancestorAt (capAt table) sender receiver item 0 ≡ suc r = sym (s .is-first) ∙ omega (arith, search-found) in
-          let all-in-line : (k : ℕ) → k < 2 ^ item .order → ancestorAt (capAt table) sender receiver item k ≡ suc r + k =
-          λ k l. s .in-turn k (omega (arith, search-ended, s .is-size)) ∙ omega (arith, search-found) in
-          let t : translates (capAt table) sender receiver item window ≡ true =
-          line-stands (capAt table) sender receiver item window (s .linked) (s .sender-small) (s .matched .item-proper) r is-suc all-in-line
-          (sym is-fitting ∙ not-false lies o) in
-          rw (t, is-range, is-space, e, n, s .is-first, s .is-order, s .is-mask, search-ended, s .is-size)
+        -- it lies there
+        pub search-on : {cap : Cap} {kept : ℕ} → not lies ≡ false → cap ≡ capAt table place → kept ≡ delegated mask (cap .permissions) →
+            Searching table sender receiver item window order size next kept (i + 1)
+        unfolding liesThere common
+        search-on o is-cap m =
+            let parts =
+            each-of-four (eqb selected (shown + i)) (aligned (item .order) shown) (leb (window .base) selected) (ltb selected (window .base + 2 ^ window .order))
+            (sym lies-as-shown ∙ not-false lies o) in
+            let there = eqb-true selected (shown + i) (parts .0) in
+            let from = leb-true (window .base) selected (parts .2) in
+            let to = ltb-true selected (window .base + 2 ^ window .order) (parts .3) in
+            record {
+              sized = s .sized;
+              linked = s .linked;
+              sender-small = s .sender-small;
+              receiver-small = s .receiver-small;
+              matched = s .matched;
+              is-order = s .is-order;
+              is-size = s .is-size;
+              inside-range = omega arith;
+              base-small = next-small;
+              is-base = λ _. next-base;
+              in-turn = λ k b. below-suc k i (omega arith) (s .in-turn k) (λ (same : k ≡ i). rw same (sym found-place ∙ rw there));
+              may-begin = λ _. parts .1;
+              begins-inside = λ _. cases (eqb i 0) (λ (t : eqb i 0 ≡ true). omega (arith, eqb-true i 0 t)) (λ (g : eqb i 0 ≡ false). s .begins-inside (omega (arith, eqb-false i 0 g)));
+              ends-inside = λ _. omega arith;
+              is-mask = rw (add-one i, sym (s .is-mask), sym p) (rw is-cap at m);
+            }
+
+  -- every offset has been done
+  pub search-shows : {space : ℕ} {range : Range} → size ≤ i → space ≡ item .space →
+      range ≡ record { space = space; base = base; order = order; mask = mask } → Shows range ≡ answer
+  unfolding translateItem
+  search-shows {space} {range} l is-space is-range =
+      let done : i ≡ 2 ^ item .order = omega (arith, s .is-size, s .inside-range) in
+      let begun : 0 < i = omega (arith, pow-pos (item .order)) in
+      let t : translates (capAt table) sender receiver item window ≡ true =
+      line-stands (capAt table) sender receiver item window (λ k b. s .in-turn k (omega arith)) (s .may-begin begun) (s .begins-inside begun)
+      (rw done at (s .ends-inside begun)) in
+      rw (t, is-range, is-space, s .is-base begun, s .is-order, s .is-mask, done)

@@ -1,10 +1,11 @@
 -- What delegating and translating an item ask for, and what they leave of the place table.
-use Prim.Native.Nat.{ℕ, suc, _<_, _≤_}
+use Prim.Native.Nat.{ℕ, suc, _+_, _^_, _<_, _≤_}
 use mathlib.Core.Path.{_≡_}
-use mathlib.Core.Bool.{Bool, true}
+use mathlib.Core.Bool.{Bool, true, _&&_}
 use mathlib.Core.List.{List}
-use lib.Dec.{eqb}
+use lib.Dec.{eqb, leb, ltb}
 use Rattle.words.specs.Sizes.{memory, selectors, places, spaceOf}
+use Rattle.words.specs.Ranges.{aligned}
 use Rattle.descriptor.specs.declared.Range.{Range}
 use Rattle.descriptor.specs.Descriptors.{Proper}
 use Rattle.interface.specs.Basics.{if_then_else_}
@@ -46,6 +47,11 @@ abbrev pub destinationOf : ℕ → Range → Range → Range
 destinationOf hotspot item window =
     let o = smallerOrder item window in
     record { space = item .space; base = raisedBase window o hotspot; order = o; mask = item .mask }
+
+-- whether a selector lies at an offset of a range that may begin at a base, and inside a window
+unfoldable pub liesThere : ℕ → ℕ → ℕ → ℕ → Range → Bool
+liesThere selector base order offset window =
+    eqb selector (base + offset) && aligned order base && leb (window .base) selector && ltb selector (window .base + 2 ^ window .order)
 
 -- the outcome of an item by its two words and the two windows
 abbrev pub itemBy : State → ℕ → ℕ → ℕ → ℕ → ℕ → ℕ → Item

@@ -1,20 +1,21 @@
 // The message block: the untyped words, and the typed items, each translated or delegated in its turn.
 ghost use Prim.Native.Nat.{_+_, _%_, _^_, _<_, _≤_, min};
 ghost use mathlib.Core.Path.{_≡_};
-ghost use mathlib.Core.Bool.{_&&_};
+ghost use lib.Dec.{eqb};
 ghost use lib.ListN.{length, drop};
 ghost use lib.Seq.{paste};
 ghost use Rattle.words.specs.Sizes.{domains, places, placeOf};
-ghost use Rattle.words.specs.Ranges.{aligned, rounded};
+ghost use Rattle.words.specs.Ranges.{rounded};
 ghost use Rattle.descriptor.specs.declared.Range.{Range};
 ghost use Rattle.descriptor.specs.declared.Match.the-variants.{Both};
 ghost use Rattle.descriptor.specs.declared.Received.the-variants.{Shows};
-ghost use Rattle.descriptor.specs.Descriptors.{describe, reading, matched, Proper};
+ghost use Rattle.descriptor.specs.Descriptors.{null, describe, reading, matched, Proper};
+ghost use Rattle.interface.specs.Basics.{if_then_else_};
 ghost use Rattle.interface.specs.Places.{capAt};
-ghost use Rattle.interface.specs.Message.{headWords, untypedCount, typedCount, payloadFits, untypedPart, receivedWord, sourceDomain, delegations, delegateItem, nearest, inside, senderPlace, translateItem, untypedCopied, transfer};
+ghost use Rattle.interface.specs.Message.{headWords, untypedCount, typedCount, payloadFits, untypedPart, receivedWord, sourceDomain, delegations, delegateItem, nearest, senderPlace, translateItem, untypedCopied, transfer};
 ghost use Rattle.places.specs.Table.{Sized};
 ghost use Rattle.tree.specs.Walks.{Linked, placesOnly};
-ghost use Rattle.transfer.specs.Typed.{LiveLinks, Matched, GivenAt, Taken, destinationOf, itemBy, Done};
+ghost use Rattle.transfer.specs.Typed.{LiveLinks, Matched, GivenAt, Taken, destinationOf, liesThere, itemBy, Done};
 ghost use Rattle.transfer.specs.Turns.{Blocks, Ready, movedBy, Transferred};
 use descriptor::Descriptor;
 use descriptor::Match;
@@ -22,6 +23,7 @@ use descriptor::Place;
 use descriptor::Range;
 use descriptor::Reason;
 use descriptor::Received;
+use descriptor::Selector;
 use words::permissions;
 use words::ranges;
 use words::sizes;
@@ -49,7 +51,14 @@ struct Outcome {
 }
 
 // An item of which the receiver is shown nothing.
-const NULL_ITEM: Outcome = Outcome { word: 0, filled: 0 };
+fn null_item() -> Outcome
+    ensures { λ r. ⌜ r ≡ record { word = null; filled = 0 } ⌝ }
+{
+    Outcome {
+        word: Descriptor::NULL.word(),
+        filled: 0,
+    }
+}
 
 // How many untyped words word 0 says.
 fn untyped_count(word0: u32) -> u32
@@ -177,40 +186,55 @@ fn nearest_in(table: &[u32], domain: u32, place: Place) -> u32
     tree::ancestor(table, place, domain * sizes::STRIDE, sizes::STRIDE)
 }
 
-// Whether a range of an order may begin at a base and then lies inside a window.
-fn lies_inside(base: u32, order: u32, window: Range) -> bool
-    requires { ⌜ (order < 32) × (base + 2 ^ order < 2 ^ 32) × Proper window ⌝ }
-    ensures { λ r. ⌜ r ≡ (aligned order base && inside base order window) ⌝ }
+// R, where all the ancestors' range begins: the selector found at offset 0.
+fn base_of(offset: u32, selector: Selector, base: Selector) -> Selector
+    ensures { λ r. ⌜ r .0 ≡ (if eqb offset 0 then selector .0 else base .0) ⌝ }
+{
+    if offset == 0 {
+        return selector;
+    }
+    base
+}
+
+// Whether a selector lies at R + offset, R is aligned, and the selector lies inside the window.
+fn lies_there(selector: u32, base: u32, order: u32, offset: u32, window: Range) -> bool
+    requires { ⌜ (order < 32) × (base + offset < 2 ^ 32) × Proper window ⌝ }
+    ensures { λ r. ⌜ r ≡ liesThere selector base order offset window ⌝ }
 {
     let start = window.at(0).number();
     let end = start + ranges::size(window.order());
-    ranges::is_aligned(order, base) & ((start <= base) & (base + ranges::size(order) <= end))
+    (selector == base + offset)
+        & ranges::is_aligned(order, base)
+        & (start <= selector)
+        & (selector < end)
 }
 
-// What the receiver is shown of an item that it is to have already: the range of the item's nearest ancestors, if it has one that lies inside the window.
+// What the receiver is shown of an item that it is to have already: the range of the nearest ancestors. The first offset that has none, or whose one lies elsewhere, ends the search.
 pub fn translate(table: &[u32], sender: u32, receiver: u32, item: Range, window: Range) -> Received
     requires { ⌜ Sized (now table) × Linked (capAt (now table)) × (sender < domains) × (receiver < domains) × Matched item window ⌝ }
     ensures { λ r. ⌜ r ≡ translateItem (placesOnly (now (table .entry))) sender receiver (Both item window) .received ⌝ }
 {
     let order = item.order();
     let size = ranges::size(order);
-    let first = nearest_in(table, receiver, place_at(sender, item, 0));
+    let mut base = item.at(0);
     let mut mask = item.mask();
     let mut i = 0u32;
     'search: while i < size {
         let place = place_at(sender, item, i);
-        if nearest_in(table, receiver, place) != first + i {
+        let found = nearest_in(table, receiver, place);
+        if found == 0 {
+            break 'search;
+        }
+        let selector = Place::nth(found - 1).selector();
+        base = base_of(i, selector, base);
+        if !lies_there(selector.number(), base.number(), order, i, window) {
             break 'search;
         }
         let cap = places::load(table, place);
         mask = permissions::keep(mask, cap.permissions);
         i += 1;
     }
-    if (first == 0) | (i < size) {
-        return Received::NullItem(Reason::TranslationBroke);
-    }
-    let base = Place::nth(first - 1).selector();
-    if !lies_inside(base.number(), order, window) {
+    if i < size {
         return Received::NullItem(Reason::TranslationBroke);
     }
     Received::Shows(Range::of(item.space(), base, order, mask))
@@ -240,7 +264,7 @@ fn received_word(received: Received) -> u32
     ensures { λ r. ⌜ r ≡ receivedWord received ⌝ }
 {
     match received {
-        Received::NullItem(_) => 0,
+        Received::NullItem(_) => Descriptor::NULL.word(),
         Received::Shows(range) => word_of(range),
     }
 }
@@ -278,7 +302,7 @@ fn delegate_item(
         window,
     );
     if filled == 0 {
-        return NULL_ITEM;
+        return null_item();
     }
     Outcome {
         word: word_of(destination(hotspot, item, window)),
@@ -310,7 +334,7 @@ fn item(
 {
     if second % 2 == 1 {
         return match matching(descriptor, delegating) {
-            Match::Neither(_) => NULL_ITEM,
+            Match::Neither(_) => null_item(),
             Match::Both(range, window) => delegate_item(
                 table,
                 sender,
@@ -322,7 +346,7 @@ fn item(
         };
     }
     match matching(descriptor, translating) {
-        Match::Neither(_) => NULL_ITEM,
+        Match::Neither(_) => null_item(),
         Match::Both(range, window) => Outcome {
             word: received_word(translate(table, sender, receiver, range, window)),
             filled: 0,

@@ -45,8 +45,12 @@ is-base c =
 is-live-requires : tie.Need-is-live-requires
 is-live-requires c κs = search needs
 
+word-requires : tie.Need-word-requires
+word-requires c κs = search needs
+
 returns : tie.Need-returns
-returns c = nothing-found (is-base (c .before .before)) (sym (c .before .is-live .ensures) ∙ not-true _ (c .if1 .taken))
+returns c objects = c .word .ensures ∙
+    nothing-found (is-base (c .before .before .before)) (sym (c .before .before .is-live .ensures) ∙ not-true _ (c .before .if1 .taken)) objects
 
 largest-order-requires : tie.Need-largest-order-requires
 largest-order-requires c κs = (c .before .before .before .before .before .before .before .pre .0, base-inside (c .before .before .before))
@@ -77,8 +81,8 @@ of-requires-2 c κs =
     let mask-small = placed .before .before .before .before .pre .3 (placed .of .result .0) (base-inside placed) in
     around-proper (is-base loaded) (ordered .largest-order .ensures .1) (placed .before .before .space .ensures) (begins c) (rw (loaded .load .ensures) mask-small)
 
-word-requires : tie.Need-word-requires
-word-requires c κs = search needs
+word-requires-2 : tie.Need-word-requires-2
+word-requires-2 c κs = search needs
 
 returns-2 : tie.Need-returns-2
 returns-2 c =
@@ -86,7 +90,7 @@ returns-2 c =
     let lived = ordered .before .before in
     let loaded = lived .before in
     range-found (is-base loaded) (ordered .largest-order .ensures .1) (sym (lived .is-live .ensures) ∙ not-false _ (ordered .before .if1 .left))
-    (ordered .largest-order .ensures .0) (loaded .before .before .before .space .ensures) (begins (c .before .before)) (c .word .ensures ∙ c .before .of2 .ensures)
+    (ordered .largest-order .ensures .0) (loaded .before .before .before .space .ensures) (begins (c .before .before)) (c .word2 .ensures ∙ c .before .of2 .ensures)
 
 pub found-spec : {M : Type 1} → statement M
 found-spec =
@@ -97,6 +101,7 @@ found-spec =
     of-requires
     load-requires
     is-live-requires
+    word-requires
     returns
     largest-order-requires
     number-requires
@@ -104,5 +109,5 @@ found-spec =
     nth-requires
     selector-requires
     of-requires-2
-    word-requires
+    word-requires-2
     returns-2)

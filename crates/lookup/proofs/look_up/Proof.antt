@@ -23,6 +23,9 @@ is-reading c = sym (rw (c .before .from-word .ensures, reading-kept) at (c .read
 enum-told : tie.Need-enum-told
 enum-told c = search needs
 
+word-requires : tie.Need-word-requires
+word-requires c κs = search needs
+
 enum-told-2 : tie.Need-enum-told-2
 enum-told-2 c = search needs
 
@@ -43,7 +46,8 @@ found-requires c κs =
     )
 
 returns : tie.Need-returns
-returns c call is-caller is-first = null-answer _ (is-reading (c .before .before) ∙ c .enum-told .given .1) call is-first
+returns c call is-caller is-first =
+    rw (c .word .ensures) (null-answer _ (is-reading (c .before .before .before) ∙ c .before .enum-told .given .1) call is-first)
 
 returns-2 : tie.Need-returns-2
 returns-2 c call is-caller is-first = malformed-answer _ (is-reading (c .before .before) ∙ c .enum-told2 .given .1) call is-first
@@ -62,6 +66,7 @@ look-up-spec =
     from-word-requires
     read-requires
     enum-told
+    word-requires
     enum-told-2
     enum-known-range
     domain-requires

@@ -11,14 +11,18 @@ source-domain-requires c κs = search needs
 delegate-requires : tie.Need-delegate-requires
 delegate-requires c κs = search needs
 
+null-item-requires : tie.Need-null-item-requires
+null-item-requires c κs = search needs
+
 same-length : tie.Need-same-length
 same-length c = search needs
 
 returns : tie.Need-returns
-returns c = let done = c .before .before .before in
+returns c = let done = c .before .before .before .before in
     let start = done .before .before .before .before in
-    delegated-none (start .args .sender) (start .args .receiver) (start .args .second) (start .args .item) (start .args .window) (done .before .source-domain .ensures .0)
-    (omega arith) (done .delegate .ensures) (c .if1 .taken)
+    rw (c .null-item .ensures)
+    (delegated-none (start .args .sender) (start .args .receiver) (start .args .second) (start .args .item) (start .args .window) (done .before .source-domain .ensures .0)
+    (omega arith) (done .delegate .ensures) (c .before .if1 .taken))
 
 destination-requires : tie.Need-destination-requires
 destination-requires c κs = search needs
@@ -42,6 +46,7 @@ delegate-item-spec =
     (tie.spec
     source-domain-requires
     delegate-requires
+    null-item-requires
     same-length
     returns
     destination-requires

@@ -11,6 +11,9 @@ matching-requires c κs = search needs
 enum-told : tie.Need-enum-told
 enum-told c = search needs
 
+null-item-requires : tie.Need-null-item-requires
+null-item-requires c κs = search needs
+
 enum-known-range : tie.Need-enum-known-range
 enum-known-range c = search needs
 
@@ -24,11 +27,12 @@ delegate-item-requires c κs = let found = c .before .before .before .before in
     )
 
 returns : tie.Need-returns
-returns c = let found = c .before .before in
+returns c = let found = c .before .before .before in
     let start = found .before .before .before in
     let a = start .args in
-    delegated-null (now (a .table)) (a .sender) (a .receiver) (a .descriptor) (a .second) (a .translating) (a .delegating) (found .before .if1 .taken)
-    (found .matching .ensures) _ (c .enum-told .given .1) (start .pre .0)
+    rw (c .null-item .ensures)
+    (delegated-null (now (a .table)) (a .sender) (a .receiver) (a .descriptor) (a .second) (a .translating) (a .delegating) (found .before .if1 .taken)
+    (found .matching .ensures) _ (c .before .enum-told .given .1) (start .pre .0))
 
 same-length : tie.Need-same-length
 same-length c = search needs
@@ -46,6 +50,9 @@ matching-requires-2 c κs = search needs
 
 enum-told-2 : tie.Need-enum-told-2
 enum-told-2 c = search needs
+
+null-item-requires-2 : tie.Need-null-item-requires-2
+null-item-requires-2 c κs = search needs
 
 enum-known-range-2 : tie.Need-enum-known-range-2
 enum-known-range-2 c = search needs
@@ -68,11 +75,12 @@ received-word-requires c κs = let ranges = c .before .before .before in
     (is-matched (a .descriptor) (a .translating) _ _ (found .matching2 .ensures) (ranges .range2 .given .1)) (c .translate .ensures)
 
 returns-3 : tie.Need-returns-3
-returns-3 c = let found = c .before .before in
+returns-3 c = let found = c .before .before .before in
     let start = found .before .before .before in
     let a = start .args in
-    translated-null (now (a .table)) (a .sender) (a .receiver) (a .descriptor) (a .second) (a .translating) (a .delegating) (found .before .if1 .left)
-    (found .matching2 .ensures) _ (c .enum-told2 .given .1) (start .pre .0)
+    rw (c .null-item2 .ensures)
+    (translated-null (now (a .table)) (a .sender) (a .receiver) (a .descriptor) (a .second) (a .translating) (a .delegating) (found .before .if1 .left)
+    (found .matching2 .ensures) _ (c .before .enum-told2 .given .1) (start .pre .0))
 
 same-length-2 : tie.Need-same-length-2
 same-length-2 c = search needs
@@ -91,6 +99,7 @@ item-spec =
     (tie.spec
     matching-requires
     enum-told
+    null-item-requires
     enum-known-range
     delegate-item-requires
     returns
@@ -98,6 +107,7 @@ item-spec =
     returns-2
     matching-requires-2
     enum-told-2
+    null-item-requires-2
     enum-known-range-2
     translate-requires
     received-word-requires

@@ -5,8 +5,9 @@ use native.Mathlib.Nat.{add-zero}
 use native.Mathlib.Omega.{arith}
 use lib.Pow.{pow-pos}
 use borrow.Author.Needs.{needs}
-use Rattle.transfer.proofs.lies_inside.Statement.{statement}
-use Rattle.transfer.proofs.lies_inside.Tie as tie
+use Rattle.transfer.specs.Typed.{liesThere}
+use Rattle.transfer.proofs.lies_there.Statement.{statement}
+use Rattle.transfer.proofs.lies_there.Tie as tie
 
 at-requires : tie.Need-at-requires
 at-requires c κs = (c .pre .2, pow-pos (c .args .window .order))
@@ -24,29 +25,20 @@ add-end : tie.Need-add-end
 add-end c = let size : c .size .result ≡ 2 ^ c .before .before .before .before .args .window .order = rw (c .before .order .ensures) at (c .size .ensures) in
     omega (arith, c .before .before .before .before .pre .2 .ends-inside)
 
+add-result : tie.Need-add-result
+add-result c = search needs
+
 is-aligned-requires : tie.Need-is-aligned-requires
 is-aligned-requires c κs = search needs
 
-size-requires-2 : tie.Need-size-requires-2
-size-requires-2 c κs = search needs
-
-add-result : tie.Need-add-result
-add-result c = omega arith
-
 returns : tie.Need-returns
-returns c = let started = c .before .before .before .before in
-    rw (
-      c .before .is-aligned .ensures,
-      c .size2 .ensures,
-      c .before .before .size .ensures,
-      c .before .before .before .order .ensures,
-      started .number .ensures,
-      started .before .at .ensures .0,
-      add-zero,
-    )
+unfolding liesThere
+returns c = let sized = c .before in
+    let started = sized .before .before in
+    rw (c .is-aligned .ensures, sized .size .ensures, sized .before .order .ensures, started .number .ensures, started .before .at .ensures .0, add-zero)
 
-pub lies-inside-spec : {M : Type 1} → statement M
-lies-inside-spec =
+pub lies-there-spec : {M : Type 1} → statement M
+lies-there-spec =
     tie.close
     (tie.spec
     at-requires
@@ -54,7 +46,6 @@ lies-inside-spec =
     order-requires
     size-requires
     add-end
-    is-aligned-requires
-    size-requires-2
     add-result
+    is-aligned-requires
     returns)
