@@ -21,3 +21,4 @@ pub mod Demand
 pub mod Consequences
 pub mod Journal
 pub mod Examples
+pub mod SmallCases
