@@ -1,5 +1,6 @@
 -- What is proved of the definitions.
 pub mod Computed
+pub mod SmallCasesComputed
 pub mod BoolLaws
 pub mod BelowLaws
 pub mod PutLaws

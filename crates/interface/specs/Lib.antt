@@ -25,3 +25,4 @@ pub mod Created
 pub mod Deliveries
 pub mod Journal
 pub mod Examples
+pub mod SmallCases

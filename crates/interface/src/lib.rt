@@ -8,6 +8,7 @@ ghost use Rattle.interface.specs.Translations.{TranslatesExactly};
 ghost use Rattle.interface.specs.DamageReport.{DamageNamed};
 ghost use Rattle.interface.specs.Demand.{LastRevokeExists, Demand3};
 ghost use Rattle.interface.specs.Examples.{WorkedExamples, MessageExample, JournalExample};
+ghost use Rattle.interface.specs.SmallCases.{SmallCases};
 
 // Demand 3: after any events from boot, the census of a live place shows exactly its heirs, and revoking everything below it empties just those.
 pub fn demand_3()
@@ -117,6 +118,11 @@ pub fn worked_examples()
 // One whole message, computed: its answer, the 64 words that the receiver gets, and the places it fills.
 pub fn message_example()
     ensures { λ r. ⌜ MessageExample ⌝ }
+{}
+
+// Each small case of the history, of translation and of the damage report follows from the definitions.
+pub fn small_cases()
+    ensures { λ r. ⌜ SmallCases ⌝ }
 {}
 
 // The lines of the journal's example follow from the definitions.

@@ -1,0 +1,98 @@
+-- Small cases worked by hand, for the definitions that the manual's examples do not reach: the history, translation and the damage report.
+use Prim.Native.Nat.{ℕ, _+_}
+use mathlib.Core.Path.{_≡_}
+use mathlib.Core.Bool.{Bool, true, false}
+use mathlib.Core.List.{List, [], _∷_}
+use lib.Dec.{eqb}
+use Rattle.descriptor.specs.declared.Range.{Range}
+use Rattle.descriptor.specs.declared.Match.the-variants.{Both}
+use Rattle.descriptor.specs.declared.Reason.the-variants.{TranslationBroke}
+use Rattle.descriptor.specs.declared.Received.{Received}
+use Rattle.descriptor.specs.declared.Received.the-variants.{NullItem, Shows}
+use Rattle.descriptor.specs.declared.Fault.{Fault}
+use Rattle.descriptor.specs.declared.Fault.the-variants.{NoFault, AtRecord, AtPlace}
+use Rattle.interface.specs.Basics.{if_then_else_, word, put, listed}
+use Rattle.interface.specs.Places.{Cap, State}
+use Rattle.interface.specs.Boot.{boot}
+use Rattle.interface.specs.Damage.{rulesOfDamage, firstFault}
+use Rattle.interface.specs.Effects.{give, cut}
+use Rattle.interface.specs.Message.{translateItem}
+use Rattle.interface.specs.History.{History, held, told, note, noteAll, heir}
+use Rattle.interface.specs.Examples.{Each, pages}
+
+-- hypervisor page 8 (place 8), delegated with mask 7 to root page 8 (place 200), from there with 3 to domain 2's (392), and from there with 2 to domain 3's (584)
+abbrev pub lineHistory : History
+lineHistory =
+    noteAll (give 200 8 7 ∷ give 392 200 3 ∷ give 584 392 2 ∷ [])
+    (record { objects = boot .objects; total = 1; fillings = λ k. record { place = 8; resource = 8; permissions = 7; source = 0 } })
+
+-- then mask 2 is revoked below root page 8, and with self from it too
+abbrev pub lineCut : Bool → History
+lineCut self = note (cut 2 200 1 self) lineHistory
+
+-- and domain 2 delegates its page to domain 3 again
+abbrev pub lineAgain : History
+lineAgain = note (give 584 392 1) (lineCut false)
+
+-- the permissions of a history's fillings, oldest first
+abbrev pub permissionsTold : History → List ℕ
+permissionsTold h = listed (h .total) (λ k. h .fillings k .permissions)
+
+-- hypervisor pages 8 and 9, delegated to two root pages from a base on with permissions 7, and from there to pages 8 and 9 of domain 2, with permissions 7 and 3
+abbrev pub twoPages : ℕ → State
+twoPages base =
+    record {
+      caps =
+          λ place.
+          if eqb place (192 + base) then record { resource = 8; permissions = 7; parent = 9; depth = 1 } else
+          if eqb place (193 + base) then record { resource = 9; permissions = 7; parent = 10; depth = 1 } else
+          if eqb place 392 then record { resource = 8; permissions = 7; parent = 193 + base; depth = 2 } else
+          if eqb place 393 then record { resource = 9; permissions = 3; parent = 194 + base; depth = 2 } else
+          boot .caps place;
+      objects = boot .objects;
+    }
+
+-- what a receiver is shown of domain 2's pages 8 and 9, through a window
+abbrev pub pagesShown : ℕ → ℕ → Range → Received
+pagesShown base receiver window = translateItem (twoPages base) 2 receiver (Both (pages 8 1) window) .received
+
+-- boot's state with other words in two places, and in two records
+abbrev pub placesChanged : ℕ → ℕ → Cap → State
+placesChanged first second cap = record { caps = put (put (boot .caps) second cap) first cap; objects = boot .objects }
+
+abbrev pub recordsChanged : State → ℕ → ℕ → State
+recordsChanged s first second = record { caps = s .caps; objects = put (put (s .objects) second (word (1 ∷ []))) first (word (1 ∷ [])) }
+
+abbrev pub faultOf : State → Fault
+faultOf s = firstFault s rulesOfDamage
+
+-- Each small case follows from the definitions
+abbrev pub SmallCases : Type 0
+SmallCases =
+    Each
+    ( -- the fillings of the line: each came from the one before
+    (listed 4 (λ k. lineHistory .fillings k .source) ≡ 0 ∷ 1 ∷ 2 ∷ 3 ∷ [])
+    ∷ (permissionsTold lineHistory ≡ 7 ∷ 7 ∷ 3 ∷ 2 ∷ [])
+    ∷  -- revoking removes mask 2 below root page 8, and with self from it too, and from nothing else
+    (permissionsTold (lineCut false) ≡ 7 ∷ 7 ∷ 1 ∷ 0 ∷ [])
+    ∷ (permissionsTold (lineCut true) ≡ 7 ∷ 5 ∷ 1 ∷ 0 ∷ [])
+    ∷  -- domain 3's page then holds nothing; and after another delegation its latest filling, the fifth, which came from root page 8's
+    (held (lineCut false) 584 ≡ 0)
+    ∷ (held lineAgain 584 ≡ 5)
+    ∷ (told lineAgain .caps 584 ≡ record { resource = 8; permissions = 1; parent = 393; depth = 3 })
+    ∷ (heir lineAgain 200 584 ≡ true)
+    ∷  -- the two pages came from root pages 10 and 11, and these from hypervisor pages 8 and 9: the common permissions are 3
+    (pagesShown 10 1 (pages 0 6) ≡ Shows (record { space = 0; base = 10; order = 1; mask = 3 }))
+    ∷ (pagesShown 10 0 (pages 0 6) ≡ Shows (record { space = 0; base = 8; order = 1; mask = 3 }))
+    ∷  -- root pages 9 and 10 are not aligned; 10 and 11 lie outside a window from 8 to 9; and the pages did not come from domain 3
+    (pagesShown 9 1 (pages 0 6) ≡ NullItem TranslationBroke)
+    ∷ (pagesShown 10 1 (pages 8 1) ≡ NullItem TranslationBroke)
+    ∷ (pagesShown 10 3 (pages 0 6) ≡ NullItem TranslationBroke)
+    ∷  -- boot has no fault; of places of domain 0 that changed the lower one is named, and a changed record before them
+    (faultOf boot ≡ NoFault)
+    ∷ (faultOf (placesChanged 9 11 (record { resource = 9; permissions = 1; parent = 0; depth = 0 })) ≡ AtPlace 2 9)
+    ∷ (faultOf (recordsChanged (placesChanged 9 11 (record { resource = 9; permissions = 1; parent = 0; depth = 0 })) 2 3) ≡ AtRecord 2 2)
+    ∷  -- of interrupt records that are no SMs the lower one is named, and of null places that are not all 0
+    (faultOf (recordsChanged boot 6 7) ≡ AtRecord 3 6)
+    ∷ (faultOf (placesChanged 1000 1001 (record { resource = 1; permissions = 0; parent = 0; depth = 0 })) ≡ AtPlace 10 1000)
+    ∷ [])
