@@ -3,7 +3,7 @@
 ghost use Rattle.interface.specs.Consequences.{StaysSound, DamagedExactly, RefusedStays, NothingIsNothing, GrantedWhereDue, AddsNoPermission, RevokesExactly};
 ghost use Rattle.interface.specs.Deliveries.{DeliversItems, DeliversWords, DeliversRange};
 ghost use Rattle.interface.specs.Demand.{Demand3};
-ghost use Rattle.interface.specs.Examples.{WorkedExamples, MessageExample, JournalExample};
+ghost use Rattle.interface.specs.Examples.{WorkedExamples, MessageExample, RangeExample, JournalExample};
 
 // Demand 3: after any events from boot, the census of a live place shows exactly its heirs, and revoking everything below it empties just those.
 pub fn demand_3()
@@ -68,6 +68,11 @@ pub fn worked_examples()
 // One whole message, computed: its answer, the 64 words that the receiver gets, and the places it fills.
 pub fn message_example()
     ensures { λ r. ⌜ MessageExample ⌝ }
+{}
+
+// One initial range, computed: the new PD, and what its domain holds.
+pub fn range_example()
+    ensures { λ r. ⌜ RangeExample ⌝ }
 {}
 
 // The lines of the journal's example follow from the definitions.
