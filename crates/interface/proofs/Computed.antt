@@ -1,24 +1,24 @@
 -- The examples, by computation.
-use Prim.Native.Nat.{ℕ}
+use Prim.Native.Nat.{ℕ, _+_}
 use mathlib.Core.Path.{_≡_, refl, ap}
 use mathlib.Core.Bool.{true}
-use mathlib.Core.List.{List, [], _∷_}
-use Rattle.words.specs.Sizes.{memory, placeOf, spaceOf}
+use mathlib.Core.List.{List, [], _∷_, _++_}
+use Rattle.words.specs.Sizes.{memory, object, placeOf, spaceOf}
 use Rattle.descriptor.specs.Descriptors.{wellFormed, wrapped, reading, matched}
 use Rattle.interface.specs.Basics.{put, listed, allBelow, anyBelow, countBelow, lowest, all, any}
-use Rattle.interface.specs.Places.{State}
+use Rattle.interface.specs.Places.{State, PD, domainWord}
 use Rattle.interface.specs.Boot.{hypervisor, root, bootRecord, hypervisorCap, rootCap, bootCap}
 use Rattle.interface.specs.Damage.{fixed-record, fixed-place, interrupt-rule, unnamed-rule, used-first, pdsBelow, pd-rule, hasPd, isEc, ec-rule, sc-rule, pt-rule, null-place, live-place, shallow, keeps, soundState}
-use Rattle.interface.specs.Effects.{Effect, give, chain, ancestors, below, fills, stripped, cutCaps, act, run, fillsOne, filled}
-use Rattle.interface.specs.Verdicts.{CALL, grant, replyOf, blockOf}
-use Rattle.interface.specs.Creations.{freeRecord, creation, createSm}
+use Rattle.interface.specs.Effects.{Effect, give, chain, ancestors, below, fills, stripped, cutCaps, act, run, fillsOne, filled, make, hold}
+use Rattle.interface.specs.Verdicts.{CALL, grant, replyOf, blockOf, CREATE-PD}
+use Rattle.interface.specs.Creations.{freeRecord, creation, createSm, createPd}
 use Rattle.interface.specs.Revoke.{revoke}
 use Rattle.interface.specs.Lookup.{uniform, largest, around, found, lookup}
 use Rattle.interface.specs.Message.{payloadFits, sourceDomain, delegateItem, firstIn, nearest, common, translates, translateItem, itemOf, untypedCopied, carried}
 use Rattle.interface.specs.PortalCalls.{portalCall}
 use Rattle.interface.specs.Rules.{hypercall, called, rules, after}
 use Rattle.interface.specs.Journal.{bodyBytes, bodyWord, recordedCall, replayFrom, width, spelled, spelledLines}
-use Rattle.interface.specs.Examples.{Each, calledExamples, neighbour, messageCap, messageRecord, messageState, blockBefore, blockReceived, exampleMessage, WorkedExamples, MessageExample, JournalExample}
+use Rattle.interface.specs.Examples.{Each, calledExamples, neighbour, messageCap, messageRecord, messageState, blockBefore, blockReceived, exampleMessage, WorkedExamples, MessageExample, JournalExample, exampleRange, RangeExample}
 use Rattle.interface.proofs.VerdictLaws.{after-granted}
 
 called-examples : Each calledExamples
@@ -68,6 +68,38 @@ computed-message = (
           message-places (placeOf neighbour memory 45),
           (message-places (placeOf neighbour memory 46), (message-places (placeOf neighbour memory 47), (message-places (placeOf neighbour memory 48), tt))),
         ),
+      ),
+    ),
+  ),
+)
+
+-- the initial range, likewise
+abbrev rangeSteps : List Effect
+rangeSteps =
+    make 34 (PD ∷ 3 ∷ []) ∷ listed 8 (λ i. give (placeOf 3 object (40 + i)) (placeOf root object (40 + i)) 2) ++ (hold (placeOf root object 41) 34 ∷ [])
+
+range-called : called messageState exampleRange (hypercall CREATE-PD) ≡ grant 0 rangeSteps []
+unfolding messageCap messageRecord spaceOf wellFormed wrapped reading listed countBelow lowest bootRecord hypervisorCap rootCap bootCap pdsBelow isEc freeRecord creation createPd hypercall called
+range-called = refl
+
+range-granted : rules messageState exampleRange ≡ grant 0 rangeSteps []
+unfolding rules
+range-granted = rw message-sound range-called
+
+range-after : after messageState exampleRange ≡ run rangeSteps messageState
+range-after = after-granted 0 rangeSteps [] messageState exampleRange range-granted
+
+pub computed-range : RangeExample
+unfolding messageCap messageRecord spaceOf put listed bootRecord hypervisorCap rootCap bootCap fills act run
+computed-range = (
+  ap replyOf range-granted,
+  (
+    ap (λ (s : State). s .objects 34 domainWord) range-after,
+    (
+      ap (λ (s : State). s .caps (placeOf root object 41)) range-after,
+      (
+        ap (λ (s : State). s .caps (placeOf 3 object 40)) range-after,
+        (ap (λ (s : State). s .caps (placeOf 3 object 41)) range-after, tt),
       ),
     ),
   ),

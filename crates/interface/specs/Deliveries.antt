@@ -126,8 +126,8 @@ DeliversItems =
 
 -- The received block.
 
--- what the receiver is shown of an item that asks to delegate: nothing where the item does not delegate to a window, or where no offset of it is due; where some is due, the
--- range that begins at the destination of the first offset, of the smaller order, with the item's mask
+-- what the receiver is shown of an item that asks to delegate: the null descriptor, 0, where the item does not delegate to a window, or where no offset of it is due; where some
+-- offset is, the descriptor of the destinations, from that of offset 0 on, with the smaller order and the item's mask
 pub record DelegateShown (s : State) (c : Call) (item shown : ℕ) : Type 0 where
   pub unmatched : ((range window : Range) → DelegatesTo c item range window → ⊥) → shown ≡ 0
   pub none-due : (range window : Range) → DelegatesTo c item range window →

@@ -1,4 +1,4 @@
--- The worked examples of the interface (docs/INTERFACE.md has them in words), as one list of statements under one name; and one whole message, and the journal's example.
+-- The worked examples of the interface (docs/INTERFACE.md has them in words), as one list of statements under one name; and one whole message, one initial range and the journal's example.
 use Prim.Native.Nat.{ℕ, zero, suc, _+_}
 use mathlib.Core.Path.{_≡_}
 use mathlib.Core.Bool.{Bool, true, false}
@@ -10,14 +10,14 @@ use Rattle.descriptor.specs.declared.Range.{Range}
 use Rattle.descriptor.specs.declared.Reading.the-variants.{Malformed, Good}
 use Rattle.descriptor.specs.declared.Reply.the-variants.{Success}
 use Rattle.interface.specs.Basics.{if_then_else_, word}
-use Rattle.interface.specs.Places.{Cap, State, nothing, parentless, PD, EC, PT}
+use Rattle.interface.specs.Places.{Cap, State, nothing, parentless, PD, EC, PT, domainWord}
 use Rattle.interface.specs.Boot.{boot, hypervisor, root, rootEc, bootRecord}
 use Rattle.interface.specs.Damage.{soundState}
 use Rattle.interface.specs.Descriptors.{typeOf, wordOf, reading}
 use Rattle.interface.specs.Effects.{Effect, give, act, run}
 use Rattle.interface.specs.Revoke.{cuts}
 use Rattle.interface.specs.Message.{delegations}
-use Rattle.interface.specs.Verdicts.{Call, CALL, LOOKUP, replyOf, blockOf}
+use Rattle.interface.specs.Verdicts.{Call, CALL, CREATE-PD, LOOKUP, replyOf, blockOf}
 use Rattle.interface.specs.Rules.{rules, after}
 use Rattle.interface.specs.Journal.{done, ended, replay, spelledLines}
 
@@ -239,6 +239,34 @@ MessageExample =
     ∷ (after messageState exampleMessage .caps (placeOf neighbour memory 46) ≡ lentPage 6 7 (placeOf hypervisor memory 6) 1)
     ∷ (after messageState exampleMessage .caps (placeOf neighbour memory 47) ≡ lentPage 7 7 (placeOf hypervisor memory 7) 1)
     ∷ (after messageState exampleMessage .caps (placeOf neighbour memory 48) ≡ nothing)
+    ∷ [])
+
+-- CREATE_PD by the root's EC on the same state: new selector 41, PD selector 32, and an initial range of the object selectors 40 to 47 with mask 2
+abbrev pub exampleRange : Call
+exampleRange =
+    record {
+      number = CREATE-PD;
+      caller = rootEc;
+      first = 41;
+      second = 32;
+      third = wordOf (typeOf object) 2 3 40;
+      fourth = 0;
+      fifth = 0;
+      sixth = 0;
+      source = [];
+      target = [];
+    }
+
+-- the new PD is object 34, of domain 3, and the root has it at selector 41; domain 3 has the portal at selector 40, with permissions 3 AND 2, and nothing beside it: the root's selector 41
+-- was null when the range was delegated
+abbrev pub RangeExample : Type 0
+RangeExample =
+    Each
+    ((replyOf (rules messageState exampleRange) ≡ Success 0)
+    ∷ (after messageState exampleRange .objects 34 domainWord ≡ 3)
+    ∷ (after messageState exampleRange .caps (placeOf root object 41) ≡ parentless 34 31)
+    ∷ (after messageState exampleRange .caps (placeOf 3 object 40) ≡ record { resource = 33; permissions = 2; parent = placeOf root object 40 + 1; depth = 1 })
+    ∷ (after messageState exampleRange .caps (placeOf 3 object 41) ≡ nothing)
     ∷ [])
 
 -- the journal's whole example: CREATE_SM (29, 40, 32, 0), LOOKUP (29, 163843)

@@ -7,7 +7,7 @@ ghost use Rattle.interface.specs.Deliveries.{DeliversItems, DeliversWord
 ghost use Rattle.interface.specs.Translations.{TranslatesExactly};
 ghost use Rattle.interface.specs.DamageReport.{DamageNamed};
 ghost use Rattle.interface.specs.Demand.{LastRevokeExists, Demand3};
-ghost use Rattle.interface.specs.Examples.{WorkedExamples, MessageExample, JournalExample};
+ghost use Rattle.interface.specs.Examples.{WorkedExamples, MessageExample, JournalExample, RangeExample};
 ghost use Rattle.interface.specs.SmallCases.{SmallCases};
 
 // Demand 3: after any events from boot, the census of a live place shows exactly its heirs, and revoking everything below it empties just those.
@@ -123,6 +123,11 @@ pub fn message_example()
 // Each small case of the history, of translation and of the damage report follows from the definitions.
 pub fn small_cases()
     ensures { λ r. ⌜ SmallCases ⌝ }
+{}
+
+// One initial range, computed: the new PD, and what its domain holds.
+pub fn range_example()
+    ensures { λ r. ⌜ RangeExample ⌝ }
 {}
 
 // The lines of the journal's example follow from the definitions.
