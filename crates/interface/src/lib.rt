@@ -4,7 +4,7 @@ ghost use Rattle.interface.specs.Consequences.{StaysSound, DamagedExactl
 ghost use Rattle.interface.specs.Refusals.{CallRefusedExactly, CreationsRefusedExactly, SmCtrlRefusedExactly, LookupRefusedExactly, RevokeRefusedExactly, CensusRefusedExactly};
 ghost use Rattle.interface.specs.Created.{CreatedExactly};
 ghost use Rattle.interface.specs.Demand.{Demand3};
-ghost use Rattle.interface.specs.Examples.{WorkedExamples, JournalExample};
+ghost use Rattle.interface.specs.Examples.{WorkedExamples, JournalExample, LayoutExamples};
 
 // Demand 3: after any events from boot, the census of a live place shows exactly its heirs, and revoking everything below it empties just those.
 pub fn demand_3()
@@ -79,6 +79,11 @@ pub fn created_exactly()
 // Every worked example follows from the definitions.
 pub fn worked_examples()
     ensures { λ r. ⌜ WorkedExamples ⌝ }
+{}
+
+// The numbers of the layout are the manual's.
+pub fn layout_examples()
+    ensures { λ r. ⌜ LayoutExamples ⌝ }
 {}
 
 // The lines of the journal's example follow from the definitions.
