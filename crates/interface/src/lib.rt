@@ -7,7 +7,7 @@ ghost use Rattle.interface.specs.Deliveries.{DeliversItems, DeliversWord
 ghost use Rattle.interface.specs.Translations.{TranslatesExactly};
 ghost use Rattle.interface.specs.DamageReport.{DamageNamed};
 ghost use Rattle.interface.specs.Demand.{LastRevokeExists, Demand3};
-ghost use Rattle.interface.specs.Examples.{WorkedExamples, MessageExample, JournalExample, RangeExample};
+ghost use Rattle.interface.specs.Examples.{WorkedExamples, MessageExample, JournalExample, RangeExample, LayoutExamples};
 ghost use Rattle.interface.specs.SmallCases.{SmallCases};
 
 // Demand 3: after any events from boot, the census of a live place shows exactly its heirs, and revoking everything below it empties just those.
@@ -128,6 +128,11 @@ pub fn small_cases()
 // One initial range, computed: the new PD, and what its domain holds.
 pub fn range_example()
     ensures { λ r. ⌜ RangeExample ⌝ }
+{}
+
+// The numbers of the layout are the manual's.
+pub fn layout_examples()
+    ensures { λ r. ⌜ LayoutExamples ⌝ }
 {}
 
 // The lines of the journal's example follow from the definitions.
