@@ -1,4 +1,4 @@
-/* Measures the deepest stack that each function of libabi.a uses: replays the
+/* Measures the deepest stack that each function of librudozhev.a uses: replays the
  * journals that are its arguments, then walks the longest way to an ancestor, on
  * a painted stack, and looks how far down the paint is gone. The arguments on the
  * caller's side are part of each figure. */

@@ -1,4 +1,4 @@
-/* The capability side of a small hypervisor: the functions of libabi.a.
+/* The capability side of a small hypervisor: the functions of librudozhev.a.
  *
  * Tables, blocks and lists are the caller's: each is lent for one call as a
  * pointer to 32-bit words and their number. A pointer may be null where the
