@@ -143,7 +143,7 @@ static void by_root(uint32_t number, uint32_t a, uint32_t b, uint32_t c) {
     record.arguments[3] = 0;
     measure(HYPERCALL);
     if (rudozhev_status(reply) != RUDOZHEV_SUCCESS) {
-        printf("hypercall %" PRIu32 " is refused\n", number);
+        fprintf(stderr, "hypercall %" PRIu32 " is refused\n", number);
         exit(EXIT_FAILURE);
     }
 }
