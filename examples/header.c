@@ -75,6 +75,19 @@ static bool breached(uint32_t rule, enum rudozhev_where where, uint32_t number, 
     return breach.rule == rule && breach.where == where && breach.number == number;
 }
 
+/* A line of one page through the root's is sound down to the greatest depth. */
+static void depth(void) {
+    uint32_t parent = rudozhev_place(0, RUDOZHEV_MEMORY, 0), next = parent;
+    for (uint32_t depth = 1; depth <= RUDOZHEV_GREATEST_DEPTH + 1; depth++) {
+        HOLDS(breached(0, RUDOZHEV_NOWHERE, 0, RUDOZHEV_OBJECT_WORDS));
+        next = rudozhev_place(1, RUDOZHEV_MEMORY, depth);
+        const uint32_t words[RUDOZHEV_PLACE_WIDTH] = {0, 7, parent + 1, depth};
+        memcpy(tables.places + RUDOZHEV_PLACE_WIDTH * next, words, sizeof words);
+        parent = next;
+    }
+    HOLDS(breached(12, RUDOZHEV_AT_PLACE, next, RUDOZHEV_OBJECT_WORDS));
+}
+
 static void damage(void) {
     HOLDS(breached(0, RUDOZHEV_NOWHERE, 0, RUDOZHEV_OBJECT_WORDS));
     HOLDS(breached(1, RUDOZHEV_NOWHERE, 0, RUDOZHEV_OBJECT_WORDS - 1));
@@ -150,6 +163,9 @@ int main(void) {
     HOLDS(boot(&tables) && boot(&general));
     hypercalls();
     refusals();
+    HOLDS(boot(&tables));
+    depth();
+    HOLDS(boot(&tables));
     damage();
     return EXIT_SUCCESS;
 }
