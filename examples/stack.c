@@ -1,4 +1,4 @@
-/* Measures the deepest stack that each function of libabi.a uses: replays the
+/* Measures the deepest stack that each function of librudozhev.a uses: replays the
  * journals that are its arguments, then walks the longest way to an ancestor, on
  * a painted stack, and looks how far down the paint is gone. The arguments on the
  * caller's side are part of each figure. */
@@ -10,7 +10,7 @@
 #include <stdlib.h>
 #include <ucontext.h>
 
-enum { STACK_WORDS = 1 << 15, ARGUMENTS = 6, GREATEST_DEPTH = 31 };
+enum { STACK_WORDS = 1 << 15, ARGUMENTS = 6 };
 
 #define PAINT UINT64_C(0xa5a5a5a5a5a5a5a5)
 
@@ -143,7 +143,7 @@ static void by_root(uint32_t number, uint32_t a, uint32_t b, uint32_t c) {
     record.arguments[3] = 0;
     measure(HYPERCALL);
     if (rudozhev_status(reply) != RUDOZHEV_SUCCESS) {
-        printf("hypercall %" PRIu32 " is refused\n", number);
+        fprintf(stderr, "hypercall %" PRIu32 " is refused\n", number);
         exit(EXIT_FAILURE);
     }
 }
@@ -158,7 +158,7 @@ static void walk_the_longest_way(void) {
     by_root(RUDOZHEV_CREATE_EC, CHILD_EC, CHILD_PD, 0);
     by_root(RUDOZHEV_CREATE_PT, TO_CHILD, RUDOZHEV_ROOT_PD_SELECTOR, CHILD_EC);
     uint32_t parent = rudozhev_place(0, RUDOZHEV_MEMORY, 0);
-    for (uint32_t depth = 1; depth <= GREATEST_DEPTH; depth++) {
+    for (uint32_t depth = 1; depth <= RUDOZHEV_GREATEST_DEPTH; depth++) {
         uint32_t next = rudozhev_place(1, RUDOZHEV_MEMORY, depth);
         uint32_t *words = places + RUDOZHEV_PLACE_WIDTH * next;
         words[0] = places[RUDOZHEV_PLACE_WIDTH * parent];
@@ -168,9 +168,9 @@ static void walk_the_longest_way(void) {
         parent = next;
     }
     record.source[0] = rudozhev_counts(0, 1);
-    record.source[RUDOZHEV_BLOCK_WORDS - 1] = rudozhev_range(RUDOZHEV_MEMORY, GREATEST_DEPTH, 0, RUDOZHEV_FULL_MASK);
-    record.source[RUDOZHEV_BLOCK_WORDS - 2] = rudozhev_item(RUDOZHEV_TRANSLATE, 0);
-    record.target[1] = rudozhev_range(RUDOZHEV_MEMORY, 0, 6, 0);
+    record.source[RUDOZHEV_BLOCK_WORDS - 1] = rudozhev_range(RUDOZHEV_MEMORY, RUDOZHEV_GREATEST_DEPTH, 0, RUDOZHEV_FULL_MASK);
+    record.source[RUDOZHEV_BLOCK_WORDS - 2] = RUDOZHEV_TRANSLATION;
+    record.target[RUDOZHEV_TRANSLATE_WINDOW] = rudozhev_range(RUDOZHEV_MEMORY, 0, 6, 0);
     by_root(RUDOZHEV_CALL, TO_CHILD, 0, 0);
     place = parent;
     measure(CENSUS);

@@ -1,18 +1,38 @@
-/* The capability side of a small hypervisor: the functions of libabi.a.
+/* The capability side of a small hypervisor: the functions of librudozhev.a.
  *
  * Tables, blocks and lists are the caller's: each is lent for one call as a
  * pointer to 32-bit words and their number. A pointer may be null where the
  * number is 0. Any words in slices of any length are accepted; slices that a
- * call writes must not overlap the others, and nobody else may write any of
- * them while it runs. The functions keep no pointer and have no state.
+ * call may write must not overlap the others, and nobody else may write any of
+ * them while it runs: a block that a guest can write is copied first. The
+ * functions keep no pointer and have no state.
  *
- * docs/INTERFACE.md has the meaning of every word.
+ * The functions below that put a word together make one that the calls refuse
+ * where a part does not fit; each says which.
+ *
+ * docs/INTERFACE.md has the meaning of every word, docs/LINKING.md what the
+ * caller keeps.
  */
 #ifndef RUDOZHEV_H
 #define RUDOZHEV_H
 
+#include <stdbool.h>
 #include <stddef.h>
 #include <stdint.h>
+
+/* A pointer to words that the call may write, and that none of its other slices has. */
+#if defined(__cplusplus)
+#define RUDOZHEV_APART __restrict
+#else
+#define RUDOZHEV_APART restrict
+#endif
+
+/* A function whose answer is lost only by mistake. */
+#if defined(__GNUC__)
+#define RUDOZHEV_ANSWERS __attribute__((warn_unused_result))
+#else
+#define RUDOZHEV_ANSWERS
+#endif
 
 #ifdef __cplusplus
 extern "C" {
@@ -20,18 +40,32 @@ extern "C" {
 
 /* Sizes. */
 enum {
-    RUDOZHEV_DOMAINS = 8,        /* 0 is the hypervisor, 1 the root */
-    RUDOZHEV_SELECTORS = 64,     /* of each space of a domain */
-    RUDOZHEV_PLACES = 1536,      /* domains, spaces and selectors together */
-    RUDOZHEV_PLACE_WIDTH = 4,    /* resource, permissions, parent place plus 1, depth */
-    RUDOZHEV_PLACE_WORDS = 6144, /* the place table */
-    RUDOZHEV_RECORDS = 64,       /* object records */
-    RUDOZHEV_RECORD_WIDTH = 5,   /* the kind and four more */
-    RUDOZHEV_OBJECT_WORDS = 320, /* the object table */
-    RUDOZHEV_BLOCK_WORDS = 64,   /* a message block */
-    RUDOZHEV_HEADER_WORDS = 4,   /* of a block, before its data */
-    RUDOZHEV_DATA_WORDS = 60     /* of a block, for untyped words and typed items */
+    RUDOZHEV_DOMAINS = 8,         /* 0 is the hypervisor, 1 the root */
+    RUDOZHEV_SPACES = 3,          /* of a domain */
+    RUDOZHEV_SELECTORS = 64,      /* of each space of a domain */
+    RUDOZHEV_DOMAIN_PLACES = 192, /* of each domain: the stride from one to the next */
+    RUDOZHEV_PLACES = 1536,       /* domains, spaces and selectors together */
+    RUDOZHEV_PLACE_WIDTH = 4,     /* resource, permissions, parent place plus 1, depth */
+    RUDOZHEV_PLACE_WORDS = 6144,  /* the place table */
+    RUDOZHEV_RECORDS = 64,        /* object records */
+    RUDOZHEV_RECORD_WIDTH = 5,    /* the kind and four more */
+    RUDOZHEV_OBJECT_WORDS = 320,  /* the object table */
+    RUDOZHEV_BLOCK_WORDS = 64,    /* a message block */
+    RUDOZHEV_HEADER_WORDS = 4,    /* of a block, before its data */
+    RUDOZHEV_DATA_WORDS = 60,     /* of a block, for untyped words and typed items */
+    RUDOZHEV_ITEM_WORDS = 2       /* of a typed item: its second word, then its descriptor */
 };
+
+/* Limits. */
+enum {
+    RUDOZHEV_GREATEST_DEPTH = 31,       /* of a place: its ancestors */
+    RUDOZHEV_GREATEST_ORDER = 6,        /* of a range: it has 2^order selectors */
+    RUDOZHEV_GREATEST_PRIORITY = 255,   /* of an SC */
+    RUDOZHEV_GREATEST_QUANTUM = 1048575 /* of an SC */
+};
+
+/* The words of a block where its receiver has its windows, before the data. */
+enum { RUDOZHEV_TRANSLATE_WINDOW = 1, RUDOZHEV_DELEGATE_WINDOW = 2 };
 
 /* Objects that boot makes, and the root selectors of the last three. */
 enum {
@@ -72,79 +106,226 @@ enum {
 };
 
 /* Operations of SM_CTRL. */
-enum { RUDOZHEV_UP = 0, RUDOZHEV_DOWN = 1 };
+enum rudozhev_operation { RUDOZHEV_UP = 0, RUDOZHEV_DOWN = 1 };
 
 /* Spaces of a domain. */
 enum rudozhev_space { RUDOZHEV_MEMORY = 0, RUDOZHEV_IO = 1, RUDOZHEV_OBJECT = 2 };
 
-/* The descriptor of no range, and the mask of all permissions. */
+/* The descriptor of no range, one that every call refuses (of order 31), and the
+ * mask of all permissions. */
 #define RUDOZHEV_NULL UINT32_C(0)
+#define RUDOZHEV_MALFORMED UINT32_C(3969)
 #define RUDOZHEV_FULL_MASK UINT32_C(31)
 
-/* Bits of a typed item's second word; the hotspot is above them. */
-#define RUDOZHEV_TRANSLATE UINT32_C(0)
-#define RUDOZHEV_DELEGATE UINT32_C(1)
-#define RUDOZHEV_FROM_HYPERVISOR (UINT32_C(1) << 11)
-
 /* The status of a reply, that of boot, a hypercall or a census, is its high half. */
-static inline uint32_t rudozhev_status(uint64_t reply) {
+RUDOZHEV_ANSWERS static inline uint32_t rudozhev_status(uint64_t reply) {
     return (uint32_t)(reply >> 32);
 }
 
 /* What a reply answers beside its status is its low half. */
-static inline uint32_t rudozhev_answer(uint64_t reply) {
+RUDOZHEV_ANSWERS static inline uint32_t rudozhev_answer(uint64_t reply) {
     return (uint32_t)reply;
 }
 
-/* The descriptor word of an aligned range of 2^order selectors. */
-static inline uint32_t rudozhev_range(enum rudozhev_space space, uint32_t base, uint32_t order, uint32_t mask) {
-    return base << 12 | (order & 31) << 7 | (mask & 31) << 2 | ((uint32_t)space + 1);
+/* The descriptor word of an aligned range of 2^order selectors. RUDOZHEV_MALFORMED
+ * where the order is above 6, the base not below 64 or no multiple of 2^order, the
+ * mask above 31, or the space none: hypercalls refuse that with BAD_PAR, and as an
+ * item or a window it moves nothing. */
+RUDOZHEV_ANSWERS static inline uint32_t rudozhev_range(enum rudozhev_space space, uint32_t base, uint32_t order,
+                                                       uint32_t mask) {
+    if ((uint32_t)space >= RUDOZHEV_SPACES || order > RUDOZHEV_GREATEST_ORDER || base >= RUDOZHEV_SELECTORS ||
+        (base & ((UINT32_C(1) << order) - 1)) != 0 || mask > RUDOZHEV_FULL_MASK) {
+        return RUDOZHEV_MALFORMED;
+    }
+    return base << 12 | order << 7 | mask << 2 | ((uint32_t)space + 1);
 }
 
-/* The place number of a selector below 64 in a domain below 8. */
-static inline uint32_t rudozhev_place(uint32_t domain, enum rudozhev_space space, uint32_t selector) {
-    return domain * 3 * RUDOZHEV_SELECTORS + (uint32_t)space * RUDOZHEV_SELECTORS + selector;
+/* The first selector of a descriptor's range, its order and its mask; in an answer
+ * of LOOKUP the mask is the permissions. */
+RUDOZHEV_ANSWERS static inline uint32_t rudozhev_base(uint32_t descriptor) {
+    return descriptor >> 12;
+}
+RUDOZHEV_ANSWERS static inline uint32_t rudozhev_order(uint32_t descriptor) {
+    return descriptor >> 7 & 31;
+}
+RUDOZHEV_ANSWERS static inline uint32_t rudozhev_mask(uint32_t descriptor) {
+    return descriptor >> 2 & RUDOZHEV_FULL_MASK;
 }
 
-/* The second word of a typed item: RUDOZHEV_TRANSLATE or RUDOZHEV_DELEGATE, the
- * latter with RUDOZHEV_FROM_HYPERVISOR where the root hands on domain 0's. */
-static inline uint32_t rudozhev_item(uint32_t kind, uint32_t hotspot) {
-    return hotspot << 12 | kind;
+/* The place number of a selector in a space of a domain. RUDOZHEV_PLACES, which no
+ * place has and a census refuses with BAD_PAR, where one of the three does not exist. */
+RUDOZHEV_ANSWERS static inline uint32_t rudozhev_place(uint32_t domain, enum rudozhev_space space, uint32_t selector) {
+    if (domain >= RUDOZHEV_DOMAINS || (uint32_t)space >= RUDOZHEV_SPACES || selector >= RUDOZHEV_SELECTORS) {
+        return RUDOZHEV_PLACES;
+    }
+    return domain * RUDOZHEV_DOMAIN_PLACES + (uint32_t)space * RUDOZHEV_SELECTORS + selector;
 }
 
-/* Word 0 of a message block: the numbers of untyped words and of typed items. */
-static inline uint32_t rudozhev_counts(uint32_t untyped, uint32_t typed) {
-    return typed << 16 | (untyped & 0xffff);
+/* The second word of a typed item that translates, and of one that delegates: from
+ * domain 0 where the root says so. A hotspot is read modulo the size of a range, 64 at
+ * most, so the bits above its low 20, which find no room in the word, have no meaning. */
+#define RUDOZHEV_TRANSLATION UINT32_C(0)
+RUDOZHEV_ANSWERS static inline uint32_t rudozhev_delegation(uint32_t hotspot, bool from_hypervisor) {
+    return hotspot << 12 | (uint32_t)from_hypervisor << 11 | 1;
+}
+
+/* Word 0 of a message block: the numbers of untyped words and of typed items. Where
+ * they do not fit a block it is a word that says too many, which CALL refuses with
+ * BAD_PAR. */
+RUDOZHEV_ANSWERS static inline uint32_t rudozhev_counts(uint32_t untyped, uint32_t typed) {
+    if (untyped > RUDOZHEV_DATA_WORDS || typed > (RUDOZHEV_DATA_WORDS - untyped) / RUDOZHEV_ITEM_WORDS) {
+        return UINT32_MAX;
+    }
+    return typed << 16 | untyped;
+}
+
+/* Priority and quantum of an SC. 0, which CREATE_SC refuses with BAD_PAR, where one of
+ * them is too great. */
+RUDOZHEV_ANSWERS static inline uint32_t rudozhev_qpd(uint32_t priority, uint32_t quantum) {
+    if (priority > RUDOZHEV_GREATEST_PRIORITY || quantum > RUDOZHEV_GREATEST_QUANTUM) {
+        return 0;
+    }
+    return quantum << 12 | priority;
 }
 
 /* Writes the tables as they are when the controller starts, whatever they held.
  * DAMAGED where a length is wrong. */
-uint64_t rudozhev_boot(uint32_t *places, size_t place_words, uint32_t *objects, size_t object_words);
+RUDOZHEV_ANSWERS uint64_t rudozhev_boot(uint32_t *RUDOZHEV_APART places, size_t place_words,
+                                        uint32_t *RUDOZHEV_APART objects, size_t object_words);
 
 /* Runs a hypercall by the EC with the object number `caller`. CALL alone reads
  * the source block, the caller's, and writes the target block, the callee's. */
-uint64_t rudozhev_hypercall(uint32_t number, uint32_t caller, uint32_t a, uint32_t b, uint32_t c, uint32_t d,
-                            uint32_t e, uint32_t f, uint32_t *places, size_t place_words, uint32_t *objects,
-                            size_t object_words, const uint32_t *source, size_t source_words, uint32_t *target,
-                            size_t target_words);
+RUDOZHEV_ANSWERS uint64_t rudozhev_hypercall(uint32_t number, uint32_t caller, uint32_t a, uint32_t b, uint32_t c,
+                                             uint32_t d, uint32_t e, uint32_t f, uint32_t *RUDOZHEV_APART places,
+                                             size_t place_words, uint32_t *RUDOZHEV_APART objects, size_t object_words,
+                                             const uint32_t *source, size_t source_words,
+                                             uint32_t *RUDOZHEV_APART target, size_t target_words);
 
 /* Writes the numbers of the places that descend from a place, rising, at the
  * start of the list, and answers how many they are. */
-uint64_t rudozhev_census(uint32_t place, const uint32_t *places, size_t place_words, const uint32_t *objects,
-                         size_t object_words, uint32_t *list, size_t list_words);
+RUDOZHEV_ANSWERS uint64_t rudozhev_census(uint32_t place, const uint32_t *places, size_t place_words,
+                                          const uint32_t *objects, size_t object_words, uint32_t *RUDOZHEV_APART list,
+                                          size_t list_words);
 
 /* The first broken rule of soundness, 1 to 12, in the high half, 0 where the
  * tables are sound; in the low half the lowest record that breaks it, or
- * RUDOZHEV_RECORDS plus the lowest place. Rule 1, of the lengths, has 0 there. */
-uint64_t rudozhev_damage(const uint32_t *places, size_t place_words, const uint32_t *objects, size_t object_words);
+ * RUDOZHEV_RECORDS plus the lowest place. Rule 1, of the lengths, has 0 there.
+ * rudozhev_read_damage takes the report apart. */
+RUDOZHEV_ANSWERS uint64_t rudozhev_damage(const uint32_t *places, size_t place_words, const uint32_t *objects,
+                                          size_t object_words);
+
+/* Where a rule of soundness is broken. */
+enum rudozhev_where {
+    RUDOZHEV_NOWHERE = 0,   /* the tables are sound, or their lengths are wrong */
+    RUDOZHEV_AT_RECORD = 1, /* at an object record */
+    RUDOZHEV_AT_PLACE = 2   /* at a place */
+};
+
+/* What a report of rudozhev_damage says. */
+struct rudozhev_breach {
+    uint32_t rule;             /* 1 to 12, or 0 where the tables are sound */
+    enum rudozhev_where where; /* what breaks it */
+    uint32_t number;           /* of that record or place, or 0 */
+};
+
+/* Takes a report of rudozhev_damage apart. */
+RUDOZHEV_ANSWERS static inline struct rudozhev_breach rudozhev_read_damage(uint64_t report) {
+    struct rudozhev_breach breach = {(uint32_t)(report >> 32), RUDOZHEV_NOWHERE, 0};
+    const uint32_t number = (uint32_t)report;
+    if (breach.rule > 1) {
+        breach.where = number < RUDOZHEV_RECORDS ? RUDOZHEV_AT_RECORD : RUDOZHEV_AT_PLACE;
+        breach.number = number < RUDOZHEV_RECORDS ? number : number - RUDOZHEV_RECORDS;
+    }
+    return breach;
+}
 
 /* 1 where the tables are sound, 0 where they are damaged. Faster than rudozhev_damage;
  * every hypercall and census makes this test first. */
-uint32_t rudozhev_sound(const uint32_t *places, size_t place_words, const uint32_t *objects, size_t object_words);
+RUDOZHEV_ANSWERS uint32_t rudozhev_sound(const uint32_t *places, size_t place_words, const uint32_t *objects,
+                                         size_t object_words);
 
 /* How many untyped words a block has; they begin at word RUDOZHEV_HEADER_WORDS.
  * None for a block of another length, or whose counts do not fit. */
-uint64_t rudozhev_untyped(const uint32_t *block, size_t block_words);
+RUDOZHEV_ANSWERS uint64_t rudozhev_untyped(const uint32_t *block, size_t block_words);
+
+/* Both tables and a message block, of the right lengths, for the hypercalls by name.
+ * Each of these is rudozhev_hypercall with the words that it takes, and answers its
+ * reply. Selectors are read in the caller's domain; `created` is where the capability
+ * on the new object is put, `pd` a PD capability that lets it be created. */
+struct rudozhev_tables {
+    uint32_t places[RUDOZHEV_PLACE_WORDS];
+    uint32_t objects[RUDOZHEV_OBJECT_WORDS];
+};
+struct rudozhev_block {
+    uint32_t words[RUDOZHEV_BLOCK_WORDS];
+};
+
+/* A hypercall other than CALL, by its number and words. */
+RUDOZHEV_ANSWERS static inline uint64_t rudozhev_without_blocks(uint32_t number, struct rudozhev_tables *tables,
+                                                                uint32_t caller, uint32_t a, uint32_t b, uint32_t c,
+                                                                uint32_t d, uint32_t e, uint32_t f) {
+    return rudozhev_hypercall(number, caller, a, b, c, d, e, f, tables->places, RUDOZHEV_PLACE_WORDS, tables->objects,
+                              RUDOZHEV_OBJECT_WORDS, NULL, 0, NULL, 0);
+}
+
+/* Sends a message through a portal; answers how many places it filled. */
+RUDOZHEV_ANSWERS static inline uint64_t rudozhev_call(struct rudozhev_tables *tables, uint32_t caller, uint32_t portal,
+                                                      const struct rudozhev_block *source,
+                                                      struct rudozhev_block *RUDOZHEV_APART target) {
+    return rudozhev_hypercall(RUDOZHEV_CALL, caller, portal, 0, 0, 0, 0, 0, tables->places, RUDOZHEV_PLACE_WORDS,
+                              tables->objects, RUDOZHEV_OBJECT_WORDS, source->words, RUDOZHEV_BLOCK_WORDS,
+                              target->words, RUDOZHEV_BLOCK_WORDS);
+}
+
+/* Makes a protection domain, and delegates the caller's object range `initial` to it. */
+RUDOZHEV_ANSWERS static inline uint64_t rudozhev_create_pd(struct rudozhev_tables *tables, uint32_t caller,
+                                                           uint32_t created, uint32_t pd, uint32_t initial) {
+    return rudozhev_without_blocks(RUDOZHEV_CREATE_PD, tables, caller, created, pd, initial, 0, 0, 0);
+}
+
+/* Makes an execution context in the domain of the named PD. */
+RUDOZHEV_ANSWERS static inline uint64_t rudozhev_create_ec(struct rudozhev_tables *tables, uint32_t caller,
+                                                           uint32_t created, uint32_t pd, uint32_t cpu,
+                                                           uint32_t event_base) {
+    return rudozhev_without_blocks(RUDOZHEV_CREATE_EC, tables, caller, created, pd, cpu, event_base, 0, 0);
+}
+
+/* Makes a scheduling context for an EC, by the word of rudozhev_qpd. */
+RUDOZHEV_ANSWERS static inline uint64_t rudozhev_create_sc(struct rudozhev_tables *tables, uint32_t caller,
+                                                           uint32_t created, uint32_t pd, uint32_t ec, uint32_t qpd) {
+    return rudozhev_without_blocks(RUDOZHEV_CREATE_SC, tables, caller, created, pd, ec, qpd, 0, 0);
+}
+
+/* Makes a portal to an EC. */
+RUDOZHEV_ANSWERS static inline uint64_t rudozhev_create_pt(struct rudozhev_tables *tables, uint32_t caller,
+                                                           uint32_t created, uint32_t pd, uint32_t ec, uint32_t mtd,
+                                                           uint32_t ip, uint32_t identifier) {
+    return rudozhev_without_blocks(RUDOZHEV_CREATE_PT, tables, caller, created, pd, ec, mtd, ip, identifier);
+}
+
+/* Makes a semaphore. */
+RUDOZHEV_ANSWERS static inline uint64_t rudozhev_create_sm(struct rudozhev_tables *tables, uint32_t caller,
+                                                           uint32_t created, uint32_t pd, uint32_t count) {
+    return rudozhev_without_blocks(RUDOZHEV_CREATE_SM, tables, caller, created, pd, count, 0, 0, 0);
+}
+
+/* Takes the mask's permissions from all that was lent from a range, and from the range
+ * itself if asked. */
+RUDOZHEV_ANSWERS static inline uint64_t rudozhev_revoke(struct rudozhev_tables *tables, uint32_t caller, uint32_t range,
+                                                        bool with_self) {
+    return rudozhev_without_blocks(RUDOZHEV_REVOKE, tables, caller, range, with_self, 0, 0, 0, 0);
+}
+
+/* Answers the descriptor of the largest range around the base of one, or RUDOZHEV_NULL. */
+RUDOZHEV_ANSWERS static inline uint64_t rudozhev_lookup(struct rudozhev_tables *tables, uint32_t caller, uint32_t at) {
+    return rudozhev_without_blocks(RUDOZHEV_LOOKUP, tables, caller, at, 0, 0, 0, 0, 0);
+}
+
+/* Counts a semaphore up or down. */
+RUDOZHEV_ANSWERS static inline uint64_t rudozhev_sm_ctrl(struct rudozhev_tables *tables, uint32_t caller,
+                                                         uint32_t semaphore, enum rudozhev_operation operation) {
+    return rudozhev_without_blocks(RUDOZHEV_SM_CTRL, tables, caller, semaphore, (uint32_t)operation, 0, 0, 0, 0);
+}
 
 #ifdef __cplusplus
 }

@@ -2,6 +2,7 @@
 
 use crate::numbers::{Space, SELECTORS};
 
+const TYPE_BITS: u32 = 3;
 const MASK_SHIFT: u32 = 2;
 const ORDER_SHIFT: u32 = 7;
 const BASE_SHIFT: u32 = 12;
@@ -32,9 +33,14 @@ impl Descriptor {
         Some(Descriptor(fields | (space as u32 + 1)))
     }
 
-    /// Any word as a descriptor, well-formed or not.
+    /// Any word as a descriptor, well-formed or not. Every word of type 0, whatever
+    /// its other bits are, is the null descriptor.
     pub const fn from_word(word: u32) -> Descriptor {
-        Descriptor(word)
+        if word & TYPE_BITS == 0 {
+            Descriptor::NULL
+        } else {
+            Descriptor(word)
+        }
     }
 
     /// The descriptor as a word.
@@ -44,7 +50,7 @@ impl Descriptor {
 
     /// The space of the range; none for a null descriptor.
     pub const fn space(self) -> Option<Space> {
-        match self.0 & 3 {
+        match self.0 & TYPE_BITS {
             1 => Some(Space::Memory),
             2 => Some(Space::Io),
             3 => Some(Space::Object),
@@ -80,6 +86,17 @@ mod tests {
         assert_eq!((found.base(), found.order(), found.mask()), (40, 0, 3));
         assert_eq!(Descriptor::from_word(163_855), found);
         assert_eq!(Descriptor::NULL.space(), None);
+    }
+
+    #[test]
+    fn every_word_of_type_0_is_the_null_descriptor() {
+        for word in [0, 4, 128, 4096, 0xffff_fffc] {
+            assert_eq!(Descriptor::from_word(word), Descriptor::NULL);
+            assert_eq!(Descriptor::from_word(word).word(), 0);
+            for kind in 1..4 {
+                assert_eq!(Descriptor::from_word(word | kind).word(), word | kind);
+            }
+        }
     }
 
     #[test]

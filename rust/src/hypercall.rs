@@ -1,12 +1,13 @@
-//! Hypercalls other than CALL.
+//! Hypercalls that have no answer.
 
 use crate::descriptor::Descriptor;
 use crate::numbers::Selector;
+use crate::words::{CREATE_EC, CREATE_PD, CREATE_PT, CREATE_SC, CREATE_SM, REVOKE, SM_CTRL};
 
-/// A hypercall without message blocks; [`crate::Tables::call`] is the other.
-/// Selectors are read in the caller's domain. `new` names the place that the
-/// created object's capability is put in, `pd` a PD capability that lets
-/// objects of this kind be created.
+/// A hypercall that has no answer; [`crate::Tables::call`] and
+/// [`crate::Tables::lookup`] are those that have one. Selectors are read in the
+/// caller's domain. `new` names the place that the created object's capability
+/// is put in, `pd` a PD capability that lets objects of this kind be created.
 #[derive(Clone, Copy, PartialEq, Eq, Debug)]
 pub enum Hypercall {
     /// Makes a protection domain.
@@ -26,8 +27,8 @@ pub enum Hypercall {
         pd: Selector,
         /// The CPU, below 4.
         cpu: u32,
-        /// The event base.
-        event_base: Selector,
+        /// Where the event portals begin.
+        event_base: EventBase,
     },
     /// Makes a scheduling context.
     CreateSc {
@@ -71,11 +72,6 @@ pub enum Hypercall {
         /// Whether the range loses them too.
         with_self: bool,
     },
-    /// Answers the word of the largest range around a selector, or 0 where it holds nothing.
-    Lookup {
-        /// A range whose base is looked up.
-        at: Descriptor,
-    },
     /// Counts a semaphore up or down.
     SmCtrl {
         /// Selector of an SM capability.
@@ -94,6 +90,23 @@ pub enum Operation {
     Down = 1,
 }
 
+/// The object selector where the event portals of an execution context begin. It
+/// is stored; no hypercall that is built uses it.
+#[derive(Clone, Copy, PartialEq, Eq, Debug, Hash)]
+pub struct EventBase(Selector);
+
+impl EventBase {
+    /// The event base at a selector.
+    pub const fn at(selector: Selector) -> EventBase {
+        EventBase(selector)
+    }
+
+    /// The selector that it is at.
+    pub const fn selector(self) -> Selector {
+        self.0
+    }
+}
+
 /// Priority and quantum of a scheduling context.
 #[derive(Clone, Copy, PartialEq, Eq, Debug)]
 pub struct Qpd(u32);
@@ -110,34 +123,31 @@ impl Qpd {
 }
 
 impl Hypercall {
-    /// The hypercall's number and its words after the caller.
-    pub(crate) const fn words(self) -> (u32, [u32; 6]) {
+    /// The hypercall's number and its words after the caller, as
+    /// [`crate::words::hypercall`] takes them.
+    pub const fn words(self) -> (u32, [u32; 6]) {
         match self {
             Hypercall::CreatePd { new, pd, initial } => {
-                (2, [new.number(), pd.number(), initial.word(), 0, 0, 0])
+                (CREATE_PD, [new.number(), pd.number(), initial.word(), 0, 0, 0])
             }
             Hypercall::CreateEc { new, pd, cpu, event_base } => {
-                (3, [new.number(), pd.number(), cpu, event_base.number(), 0, 0])
+                (CREATE_EC, [new.number(), pd.number(), cpu, event_base.0.number(), 0, 0])
             }
             Hypercall::CreateSc { new, pd, ec, qpd } => {
-                (4, [new.number(), pd.number(), ec.number(), qpd.0, 0, 0])
+                (CREATE_SC, [new.number(), pd.number(), ec.number(), qpd.0, 0, 0])
             }
             Hypercall::CreatePt { new, pd, ec, mtd, ip, identifier } => {
-                (5, [new.number(), pd.number(), ec.number(), mtd, ip, identifier])
+                (CREATE_PT, [new.number(), pd.number(), ec.number(), mtd, ip, identifier])
             }
             Hypercall::CreateSm { new, pd, count } => {
-                (6, [new.number(), pd.number(), count, 0, 0, 0])
+                (CREATE_SM, [new.number(), pd.number(), count, 0, 0, 0])
             }
             Hypercall::Revoke { range, with_self } => {
-                (7, [range.word(), with_self as u32, 0, 0, 0, 0])
+                (REVOKE, [range.word(), with_self as u32, 0, 0, 0, 0])
             }
-            Hypercall::Lookup { at } => (8, [at.word(), 0, 0, 0, 0, 0]),
             Hypercall::SmCtrl { semaphore, operation } => {
-                (11, [semaphore.number(), operation as u32, 0, 0, 0, 0])
+                (SM_CTRL, [semaphore.number(), operation as u32, 0, 0, 0, 0])
             }
         }
     }
 }
-
-/// The number of CALL.
-pub(crate) const CALL: u32 = 0;

@@ -8,14 +8,17 @@
 //! a refused call is a value, [`Refusal`], that has changed no word.
 //!
 //! ```
-//! use rudozhev::{Block, Descriptor, Hypercall, Item, ObjectNumber, Refusal, Selector, Space, Tables};
+//! use rudozhev::{
+//!     Block, Descriptor, EventBase, Hotspot, Hypercall, Item, ObjectNumber, Refusal, Selector,
+//!     Space, Tables,
+//! };
 //!
 //! # fn main() -> Result<(), Refusal> {
 //! let [pd, new_ec, new_portal] = [32, 35, 36].map(|number| Selector::new(number).unwrap());
 //! let mut tables = Tables::booted();
 //! tables.hypercall(
 //!     ObjectNumber::ROOT_EC,
-//!     Hypercall::CreateEc { new: new_ec, pd, cpu: 0, event_base: Selector::FIRST },
+//!     Hypercall::CreateEc { new: new_ec, pd, cpu: 0, event_base: EventBase::at(Selector::FIRST) },
 //! )?;
 //! tables.hypercall(
 //!     ObjectNumber::ROOT_EC,
@@ -26,9 +29,12 @@
 //! let ports = Descriptor::new(Space::Io, 8, 3, Descriptor::FULL_MASK).unwrap();
 //! let (mut sent, mut received) = (Block::new(), Block::new());
 //! received.set_windows(Descriptor::NULL, ports);
-//! let item = Item::Delegate { range: ports, hotspot: 0, from_hypervisor: true };
+//! let item = Item::Delegate { range: ports, hotspot: Hotspot::ZERO, from_hypervisor: true };
 //! sent.set_message(&[], &[item]).unwrap();
 //! assert_eq!(tables.call(ObjectNumber::ROOT_EC, new_portal, &sent, &mut received)?, 8);
+//!
+//! let found = tables.lookup(ObjectNumber::ROOT_EC, ports)?;
+//! assert_eq!(found.map(|range| (range.base(), range.order())), Some((8, 3)));
 //! # Ok(())
 //! # }
 //! ```
@@ -45,8 +51,8 @@ mod tables;
 pub mod words;
 
 pub use descriptor::Descriptor;
-pub use hypercall::{Hypercall, Operation, Qpd};
-pub use message::{Block, Item, Received, TooLong};
+pub use hypercall::{EventBase, Hypercall, Operation, Qpd};
+pub use message::{Block, Hotspot, Item, Received, TooLong};
 pub use numbers::{Domain, ObjectNumber, Place, Selector, Space};
 pub use refusal::Refusal;
 pub use tables::{Capability, Tables};

@@ -4,7 +4,7 @@ use core::error::Error;
 use core::fmt;
 
 use crate::descriptor::Descriptor;
-use crate::words::{self, BLOCK_WORDS, HEADER_WORDS};
+use crate::words::{self, BLOCK_WORDS, DATA_WORDS, HEADER_WORDS};
 
 const TRANSLATE_WINDOW: usize = 1;
 const DELEGATE_WINDOW: usize = 2;
@@ -25,8 +25,8 @@ pub enum Item {
     Delegate {
         /// The sender's range, with the permissions to hand on as its mask.
         range: Descriptor,
-        /// Which part of the larger of range and window is meant; below 2^20.
-        hotspot: u32,
+        /// Which part of the larger of range and window is meant.
+        hotspot: Hotspot,
         /// Whether the root hands on domain 0's capabilities instead of its own.
         from_hypervisor: bool,
     },
@@ -35,6 +35,30 @@ pub enum Item {
         /// The sender's range, with a mask.
         range: Descriptor,
     },
+}
+
+/// A delegation's hotspot: where the part that is meant lies in the larger of
+/// range and window.
+#[derive(Clone, Copy, PartialEq, Eq, Debug, Hash)]
+pub struct Hotspot(u32);
+
+impl Hotspot {
+    /// Hotspot 0: the part where the larger range begins.
+    pub const ZERO: Hotspot = Hotspot(0);
+
+    /// The hotspot of this number, if it has at most 20 bits.
+    pub const fn new(number: u32) -> Option<Hotspot> {
+        if number < 1 << (u32::BITS - HOTSPOT_SHIFT) {
+            Some(Hotspot(number))
+        } else {
+            None
+        }
+    }
+
+    /// The hotspot's number.
+    pub const fn number(self) -> u32 {
+        self.0
+    }
 }
 
 /// A typed item as it is received.
@@ -110,11 +134,18 @@ impl Block {
         words::untyped(&self.0)
     }
 
-    /// The typed items of a received message, in their order.
+    /// How many untyped words and typed items word 0 says.
+    const fn counts(&self) -> (usize, usize) {
+        ((self.0[0] & 0xffff) as usize, (self.0[0] >> 16) as usize)
+    }
+
+    /// The typed items of a received message, in their order; none where the
+    /// counts do not fit a block.
     pub fn received(&self) -> impl Iterator<Item = Received> + '_ {
-        let count = (self.0[0] >> 16) as usize;
+        let (untyped, typed) = self.counts();
+        let fits = untyped + ITEM_WORDS * typed <= DATA_WORDS;
         let slots = self.0[HEADER_WORDS..].rchunks_exact(ITEM_WORDS);
-        slots.take(count).map(|slot| {
+        slots.take(if fits { typed } else { 0 }).map(|slot| {
             let range = Descriptor::from_word(slot[1]);
             match (slot[0] & DELEGATE, range) {
                 (0, Descriptor::NULL) => Received::NotTranslated,
@@ -138,7 +169,7 @@ impl Item {
         match self {
             Item::Delegate { range, hotspot, from_hypervisor } => {
                 let flag = if from_hypervisor { FROM_HYPERVISOR } else { 0 };
-                (hotspot << HOTSPOT_SHIFT | flag | DELEGATE, range.word())
+                (hotspot.0 << HOTSPOT_SHIFT | flag | DELEGATE, range.word())
             }
             Item::Translate { range } => (0, range.word()),
         }
@@ -153,10 +184,9 @@ mod tests {
     #[test]
     fn a_message_is_laid_out_from_both_ends() {
         let range = Descriptor::new(Space::Io, 8, 2, 1).expect("a range");
-        let items = [
-            Item::Delegate { range, hotspot: 23, from_hypervisor: true },
-            Item::Translate { range },
-        ];
+        let hotspot = Hotspot::new(23).expect("a hotspot");
+        let items =
+            [Item::Delegate { range, hotspot, from_hypervisor: true }, Item::Translate { range }];
         let mut block = Block::new();
         assert_eq!(block.set_message(&[5, 6, 7], &items), Ok(()));
         let words = block.words();
@@ -177,5 +207,43 @@ mod tests {
         assert_eq!(block.set_message(&[1; 60], &[]), Ok(()));
         assert_eq!(block.set_message(&[], &[item; 30]), Ok(()));
         assert!(block.received().eq([Received::NotTranslated; 30]));
+    }
+
+    #[test]
+    fn a_hotspot_that_does_not_fit_is_not_made() {
+        let greatest = Hotspot::new((1 << 20) - 1).expect("a hotspot");
+        let item =
+            Item::Delegate { range: Descriptor::NULL, hotspot: greatest, from_hypervisor: false };
+        assert_eq!(item.words(), (0xffff_f001, 0));
+        assert_eq!(Hotspot::new(0), Some(Hotspot::ZERO));
+        assert_eq!(Hotspot::new(1 << 20), None);
+        assert_eq!(Hotspot::new(u32::MAX), None);
+    }
+
+    #[test]
+    fn counts_that_do_not_fit_have_no_parts() {
+        let with = |untyped: u32, typed: u32| {
+            let mut words = [7; BLOCK_WORDS];
+            words[0] = typed << 16 | untyped;
+            let block = Block::from_words(words);
+            (block.untyped().len(), block.received().count())
+        };
+        assert_eq!(with(0, 30), (0, 30));
+        assert_eq!(with(58, 1), (58, 1));
+        assert_eq!(with(60, 0), (60, 0));
+        assert_eq!(with(1, 30), (0, 0));
+        assert_eq!(with(59, 1), (0, 0));
+        assert_eq!(with(61, 0), (0, 0));
+        assert_eq!(with(0, 31), (0, 0));
+        assert_eq!(with(0xffff, 0xffff), (0, 0));
+    }
+
+    #[test]
+    fn a_received_descriptor_of_type_0_is_null() {
+        let mut words = [0; BLOCK_WORDS];
+        words[0] = 2 << 16;
+        words[60..].copy_from_slice(&[1, 4096, 0, 0xffff_fffc]);
+        let received = [Received::NotTranslated, Received::NotDelegated];
+        assert!(Block::from_words(words).received().eq(received));
     }
 }

@@ -1,10 +1,11 @@
 //! Both tables, with typed calls on them.
 
-use crate::hypercall::{Hypercall, CALL};
+use crate::descriptor::Descriptor;
+use crate::hypercall::Hypercall;
 use crate::message::Block;
 use crate::numbers::{ObjectNumber, Place, Selector};
 use crate::refusal::Refusal;
-use crate::words::{self, Damage, OBJECT_WORDS, PLACE_WIDTH, PLACE_WORDS};
+use crate::words::{self, Damage, CALL, LOOKUP, OBJECT_WORDS, PLACE_WIDTH, PLACE_WORDS};
 
 /// The place table and the object table.
 #[derive(Clone, PartialEq, Eq, Debug)]
@@ -61,8 +62,29 @@ impl Tables {
     }
 
     /// Runs a hypercall by an execution context.
-    pub fn hypercall(&mut self, caller: ObjectNumber, call: Hypercall) -> Result<u32, Refusal> {
+    pub fn hypercall(&mut self, caller: ObjectNumber, call: Hypercall) -> Result<(), Refusal> {
         let (number, arguments) = call.words();
+        self.run(number, caller, arguments).map(drop)
+    }
+
+    /// The largest range around the base of a descriptor, with its permissions as
+    /// the mask; none where the place there is null.
+    pub fn lookup(
+        &mut self,
+        caller: ObjectNumber,
+        at: Descriptor,
+    ) -> Result<Option<Descriptor>, Refusal> {
+        let found = Descriptor::from_word(self.run(LOOKUP, caller, [at.word(), 0, 0, 0, 0, 0])?);
+        Ok(Some(found).filter(|&found| found != Descriptor::NULL))
+    }
+
+    /// Runs a hypercall without message blocks.
+    fn run(
+        &mut self,
+        number: u32,
+        caller: ObjectNumber,
+        arguments: [u32; 6],
+    ) -> Result<u32, Refusal> {
         let (places, objects) = (&mut self.places, &mut self.objects);
         words::hypercall(number, caller.number(), arguments, places, objects, &[], &mut [])
     }

@@ -30,6 +30,41 @@ pub const BLOCK_WORDS: usize = 64;
 /// Words of a block before its data, which begins with the untyped words.
 pub const HEADER_WORDS: usize = 4;
 
+/// Words of a block for untyped words and typed items.
+pub const DATA_WORDS: usize = BLOCK_WORDS - HEADER_WORDS;
+
+/// The number of CALL, which sends a message through a portal: its selector, and
+/// both blocks.
+pub const CALL: u32 = 0;
+
+/// The number of CREATE_PD: new selector, PD selector, initial descriptor.
+pub const CREATE_PD: u32 = 2;
+
+/// The number of CREATE_EC: new selector, PD selector, CPU, event base.
+pub const CREATE_EC: u32 = 3;
+
+/// The number of CREATE_SC: new selector, PD selector, EC selector, QPD.
+pub const CREATE_SC: u32 = 4;
+
+/// The number of CREATE_PT: new selector, PD selector, EC selector, MTD, IP,
+/// identifier.
+pub const CREATE_PT: u32 = 5;
+
+/// The number of CREATE_SM: new selector, PD selector, count.
+pub const CREATE_SM: u32 = 6;
+
+/// The number of REVOKE: descriptor, self word.
+pub const REVOKE: u32 = 7;
+
+/// The number of LOOKUP: descriptor.
+pub const LOOKUP: u32 = 8;
+
+/// The number of SM_CTRL: selector, operation.
+pub const SM_CTRL: u32 = 11;
+
+// The functions of the archive, which takes each slice as a pointer and a length.
+// They are proved for slices of any length and content: they read and write no
+// word outside the slices that they are lent, and they keep nothing.
 extern "C" {
     fn rudozhev_boot(
         places: *mut u32,
@@ -123,8 +158,9 @@ impl Damage {
 /// Writes the tables as they are when the controller starts, whatever they held;
 /// refused as damaged where a length is wrong.
 pub fn boot(places: &mut [u32], objects: &mut [u32]) -> Result<u32, Refusal> {
-    // SAFETY: each pointer is valid for its length, the slices do not overlap,
-    // and the function keeps none of them. This holds of each call below.
+    // SAFETY: pointers and lengths are those of two mutable slices. So each pointer
+    // is aligned and good for reading and writing its whole length, and nothing
+    // else reaches the words of either slice while the call runs.
     Refusal::read(unsafe {
         rudozhev_boot(places.as_mut_ptr(), places.len(), objects.as_mut_ptr(), objects.len())
     })
@@ -141,7 +177,10 @@ pub fn hypercall(
     source: &[u32],
     target: &mut [u32],
 ) -> Result<u32, Refusal> {
-    // SAFETY: as at boot.
+    // SAFETY: the tables and the target block are mutable slices, so nothing else
+    // reaches their words while the call runs, the source block included. That one
+    // is a shared slice, which nobody writes, and the function only reads it. Each
+    // pointer is aligned and good for the length of its slice.
     Refusal::read(unsafe {
         rudozhev_hypercall(
             number,
@@ -172,7 +211,9 @@ pub fn census(
     objects: &[u32],
     list: &mut [u32],
 ) -> Result<u32, Refusal> {
-    // SAFETY: as at boot.
+    // SAFETY: the tables are shared slices, which nobody writes and the function
+    // only reads. The list is a mutable slice, so that it overlaps neither of them.
+    // Each pointer is aligned and good for the length of its slice.
     Refusal::read(unsafe {
         rudozhev_census(
             place,
@@ -188,7 +229,8 @@ pub fn census(
 
 /// The first broken rule of soundness, if any.
 pub fn damage(places: &[u32], objects: &[u32]) -> Option<Damage> {
-    // SAFETY: as at boot.
+    // SAFETY: both are shared slices, which nobody writes and the function only
+    // reads, and each pointer is aligned and good for the length of its slice.
     Damage::read(unsafe {
         rudozhev_damage(places.as_ptr(), places.len(), objects.as_ptr(), objects.len())
     })
@@ -196,14 +238,16 @@ pub fn damage(places: &[u32], objects: &[u32]) -> Option<Damage> {
 
 /// Whether the tables are sound. Faster than finding the broken rule.
 pub fn is_sound(places: &[u32], objects: &[u32]) -> bool {
-    // SAFETY: as at boot.
+    // SAFETY: both are shared slices, which nobody writes and the function only
+    // reads, and each pointer is aligned and good for the length of its slice.
     unsafe { rudozhev_sound(places.as_ptr(), places.len(), objects.as_ptr(), objects.len()) == 1 }
 }
 
 /// The untyped words of a block, as a part of it; none for a block of another
 /// length or whose counts do not fit.
 pub fn untyped(block: &[u32]) -> &[u32] {
-    // SAFETY: as at boot.
+    // SAFETY: the block is a shared slice, which nobody writes and the function only
+    // reads, and the pointer is aligned and good for its length.
     let count = unsafe { rudozhev_untyped(block.as_ptr(), block.len()) } as usize;
     block.get(HEADER_WORDS..HEADER_WORDS + count).unwrap_or_default()
 }

@@ -2,8 +2,8 @@
 
 use rudozhev::words::{OBJECT_WORDS, PLACE_WORDS};
 use rudozhev::{
-    Block, Capability, Damage, Descriptor, Domain, Hypercall, Item, Location, ObjectNumber,
-    Operation, Place, Qpd, Received, Refusal, Selector, Space, Tables,
+    words, Block, Capability, Damage, Descriptor, Domain, EventBase, Hotspot, Hypercall, Item,
+    Location, ObjectNumber, Operation, Place, Qpd, Received, Refusal, Selector, Space, Tables,
 };
 
 const ROOT_EC: ObjectNumber = ObjectNumber::ROOT_EC;
@@ -23,16 +23,12 @@ fn range(space: Space, base: u32, order: u32, mask: u32) -> Descriptor {
     Descriptor::new(space, base, order, mask).expect("a range")
 }
 
-fn lookup(tables: &mut Tables, caller: ObjectNumber, at: Descriptor) -> Result<u32, Refusal> {
-    tables.hypercall(caller, Hypercall::Lookup { at })
-}
-
 /// Tables with domain 2 and its EC, a second EC of the root, portals of the root
 /// to both at 37 and 39, and one of the child at 40 to the root's first EC.
 fn partners() -> Result<Tables, Refusal> {
     let mut tables = Tables::booted();
     let pd = selector(32);
-    let event_base = Selector::FIRST;
+    let event_base = EventBase::at(Selector::FIRST);
     let portal = |new, ec| Hypercall::CreatePt {
         new: selector(new),
         pd,
@@ -50,7 +46,7 @@ fn partners() -> Result<Tables, Refusal> {
         portal(40, 33),
     ];
     for call in calls {
-        assert_eq!(tables.hypercall(ROOT_EC, call)?, 0);
+        tables.hypercall(ROOT_EC, call)?;
     }
     let portal = range(Space::Object, 40, 0, Descriptor::FULL_MASK);
     assert_eq!(lend(&mut tables, 37, portal, portal, false)?, 1);
@@ -67,7 +63,7 @@ fn lend(
 ) -> Result<u32, Refusal> {
     let (mut source, mut target) = (Block::new(), Block::new());
     target.set_windows(Descriptor::NULL, window);
-    let item = Item::Delegate { range, hotspot: 0, from_hypervisor };
+    let item = Item::Delegate { range, hotspot: Hotspot::ZERO, from_hypervisor };
     source.set_message(&[], &[item]).expect("a short message");
     tables.call(ROOT_EC, selector(portal), &source, &mut target)
 }
@@ -90,10 +86,80 @@ fn boot_makes_sound_tables() {
 fn the_journal_example_answers_as_in_the_manual() -> Result<(), Refusal> {
     let mut tables = Tables::booted();
     let create = Hypercall::CreateSm { new: selector(40), pd: selector(32), count: 0 };
-    assert_eq!(tables.hypercall(ROOT_EC, create)?, 0);
-    assert_eq!(lookup(&mut tables, ROOT_EC, Descriptor::from_word(163_843))?, 163_855);
-    assert_eq!(lookup(&mut tables, ROOT_EC, range(Space::Object, 32, 0, 0))?, 131_199);
-    assert_eq!(lookup(&mut tables, ROOT_EC, range(Space::Object, 35, 0, 0))?, 0);
+    tables.hypercall(ROOT_EC, create)?;
+    let mut found = |word| tables.lookup(ROOT_EC, Descriptor::from_word(word));
+    assert_eq!(found(163_843)?, Some(Descriptor::from_word(163_855)));
+    assert_eq!(found(131_075)?, Some(range(Space::Object, 32, 0, 31)));
+    assert_eq!(found(143_363)?, None);
+    Ok(())
+}
+
+#[test]
+fn lookup_reads_every_word_of_type_0_as_null() -> Result<(), Refusal> {
+    let mut tables = Tables::booted();
+    for word in [0, 4, 131_196, 4_294_967_292] {
+        assert_eq!(tables.lookup(ROOT_EC, Descriptor::from_word(word))?, None);
+    }
+    let malformed = Descriptor::from_word(16_769);
+    assert_eq!(tables.lookup(ROOT_EC, malformed), Err(Refusal::BadPar));
+    Ok(())
+}
+
+#[test]
+fn a_typed_hypercall_is_the_numbered_one() {
+    let [new, pd, ec, semaphore] = [41, 32, 33, 40].map(selector);
+    let range = range(Space::Object, 40, 0, 3);
+    let (qpd, event_base) = (Qpd::new(1, 10_000).expect("a quantum"), EventBase::at(selector(7)));
+    assert_eq!(event_base.selector(), selector(7));
+    let (mtd, ip, identifier, count) = (4, 5, 6, 3);
+    let calls = [
+        (
+            Hypercall::CreatePd { new, pd, initial: range },
+            words::CREATE_PD,
+            [41, 32, 163_855, 0, 0, 0],
+        ),
+        (
+            Hypercall::CreateEc { new, pd, cpu: 2, event_base },
+            words::CREATE_EC,
+            [41, 32, 2, 7, 0, 0],
+        ),
+        (
+            Hypercall::CreateSc { new, pd, ec, qpd },
+            words::CREATE_SC,
+            [41, 32, 33, 40_960_001, 0, 0],
+        ),
+        (
+            Hypercall::CreatePt { new, pd, ec, mtd, ip, identifier },
+            words::CREATE_PT,
+            [41, 32, 33, 4, 5, 6],
+        ),
+        (Hypercall::CreateSm { new, pd, count }, words::CREATE_SM, [41, 32, 3, 0, 0, 0]),
+        (Hypercall::Revoke { range, with_self: true }, words::REVOKE, [163_855, 1, 0, 0, 0, 0]),
+        (
+            Hypercall::SmCtrl { semaphore, operation: Operation::Down },
+            words::SM_CTRL,
+            [40, 1, 0, 0, 0, 0],
+        ),
+    ];
+    for (call, number, arguments) in calls {
+        assert_eq!(call.words(), (number, arguments));
+    }
+    let typed = calls.map(|(_, number, _)| number);
+    assert_eq!(typed, [2, 3, 4, 5, 6, 7, 11]);
+    assert_eq!([words::CALL, words::LOOKUP], [0, 8]);
+}
+
+#[test]
+fn the_hotspot_selects_the_part_of_the_window() -> Result<(), Refusal> {
+    let mut tables = partners()?;
+    let (mut source, mut target) = (Block::new(), Block::new());
+    let hotspot = Hotspot::new(23).expect("a hotspot");
+    let ports = range(Space::Io, 8, 2, 1);
+    target.set_windows(Descriptor::NULL, range(Space::Io, 32, 4, 0));
+    let item = Item::Delegate { range: ports, hotspot, from_hypervisor: true };
+    source.set_message(&[], &[item]).expect("a short message");
+    assert_eq!(tables.call(ROOT_EC, selector(39), &source, &mut target)?, 4);
+    assert!(target.received().eq([Received::Delegated(range(Space::Io, 36, 2, 1))]));
     Ok(())
 }
 
@@ -102,7 +168,9 @@ fn what_is_lent_is_seen_translated_and_revoked() -> Result<(), Refusal> {
     let mut tables = partners()?;
     let pages = range(Space::Memory, 0, 3, 7);
     assert_eq!(lend(&mut tables, 39, pages, range(Space::Memory, 8, 3, 0), true)?, 8);
-    assert_eq!(lookup(&mut tables, ROOT_EC, range(Space::Memory, 10, 0, 0))?, 33_181);
+    let found = tables.lookup(ROOT_EC, range(Space::Memory, 10, 0, 0))?;
+    assert_eq!(found, Some(range(Space::Memory, 8, 3, 7)));
+    assert_eq!(found.map(Descriptor::word), Some(33_181));
     let own = range(Space::Memory, 8, 1, 3);
     assert_eq!(lend(&mut tables, 37, own, range(Space::Memory, 20, 1, 0), false)?, 2);
 
@@ -136,7 +204,7 @@ fn a_refusal_is_a_value_and_changes_nothing() -> Result<(), Refusal> {
     let mut tables = partners()?;
     let before = tables.clone();
     let [taken, free, pd] = [35, 50, 32].map(selector);
-    let event_base = Selector::FIRST;
+    let event_base = EventBase::at(Selector::FIRST);
     let qpd = Qpd::new(0, 10).expect("a quantum of 20 bits");
     let refused = [
         (Hypercall::CreateSm { new: taken, pd, count: 0 }, Refusal::BadCap),
@@ -148,7 +216,7 @@ fn a_refusal_is_a_value_and_changes_nothing() -> Result<(), Refusal> {
         assert_eq!(tables.hypercall(ROOT_EC, call), Err(refusal));
     }
     let at = Descriptor::NULL;
-    assert_eq!(lookup(&mut tables, ObjectNumber::ROOT_PD, at), Err(Refusal::BadCaller));
+    assert_eq!(tables.lookup(ObjectNumber::ROOT_PD, at), Err(Refusal::BadCaller));
     let (source, mut target) = (Block::new(), Block::from_words([9; 64]));
     let reply = tables.call(ROOT_EC, selector(40), &source, &mut target);
     assert_eq!(reply, Err(Refusal::ComTim));
@@ -167,7 +235,7 @@ fn damaged_tables_are_refused_by_that_name() {
     places[place.number() as usize * 4] = 1;
     let mut tables = Tables::from_words(places, objects);
     assert_eq!(tables.damage(), Some(Damage { rule: 10, at: Location::Place(place) }));
-    assert_eq!(lookup(&mut tables, ROOT_EC, Descriptor::NULL), Err(Refusal::Damaged));
+    assert_eq!(tables.lookup(ROOT_EC, Descriptor::NULL), Err(Refusal::Damaged));
     tables.boot();
     assert!(tables == booted);
 }

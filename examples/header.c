@@ -1,0 +1,171 @@
+/* Holds what the header computes against the words of the manual, and each hypercall
+ * by its name against the general one. Prints the first line that differs. */
+#include "rudozhev.h"
+
+#include <stdio.h>
+#include <stdlib.h>
+#include <string.h>
+
+#define HOLDS(condition)                                                                                               \
+    do {                                                                                                               \
+        if (!(condition)) {                                                                                            \
+            printf("line %d: %s\n", __LINE__, #condition);                                                             \
+            exit(EXIT_FAILURE);                                                                                        \
+        }                                                                                                              \
+    } while (0)
+
+static struct rudozhev_tables tables, general;
+static struct rudozhev_block source, target, general_target;
+
+/* The general hypercall, on tables of its own. */
+static uint64_t generally(uint32_t number, uint32_t a, uint32_t b, uint32_t c, uint32_t d, uint32_t e, uint32_t f) {
+    return rudozhev_hypercall(number, RUDOZHEV_ROOT_EC, a, b, c, d, e, f, general.places, RUDOZHEV_PLACE_WORDS,
+                              general.objects, RUDOZHEV_OBJECT_WORDS, source.words, RUDOZHEV_BLOCK_WORDS,
+                              general_target.words, RUDOZHEV_BLOCK_WORDS);
+}
+
+/* Whether a named call and the general one answered and left the same, with a status. */
+static bool same(uint64_t named, uint64_t reply, uint32_t status) {
+    return named == reply && rudozhev_status(reply) == status && memcmp(&tables, &general, sizeof tables) == 0 &&
+           memcmp(&target, &general_target, sizeof target) == 0;
+}
+
+static void descriptors(void) {
+    HOLDS(rudozhev_range(RUDOZHEV_OBJECT, 40, 0, 3) == 163855);
+    HOLDS(rudozhev_range(RUDOZHEV_OBJECT, 32, 0, 31) == 131199);
+    HOLDS(rudozhev_range(RUDOZHEV_MEMORY, 8, 3, 7) == 33181);
+    HOLDS(rudozhev_range(RUDOZHEV_MEMORY, 0, 6, 0) == 769);
+    HOLDS(rudozhev_range(RUDOZHEV_IO, 63, 0, 0) == 258050);
+    HOLDS(rudozhev_base(33181) == 8 && rudozhev_order(33181) == 3 && rudozhev_mask(33181) == 7);
+
+    HOLDS(rudozhev_range(RUDOZHEV_MEMORY, 4, 3, 0) == RUDOZHEV_MALFORMED);
+    HOLDS(rudozhev_range(RUDOZHEV_MEMORY, 0, 7, 0) == RUDOZHEV_MALFORMED);
+    HOLDS(rudozhev_range(RUDOZHEV_MEMORY, 0, 32, 0) == RUDOZHEV_MALFORMED);
+    HOLDS(rudozhev_range(RUDOZHEV_OBJECT, 0, UINT32_MAX, 0) == RUDOZHEV_MALFORMED);
+    HOLDS(rudozhev_range(RUDOZHEV_IO, 64, 0, 0) == RUDOZHEV_MALFORMED);
+    HOLDS(rudozhev_range(RUDOZHEV_IO, UINT32_MAX, 0, 0) == RUDOZHEV_MALFORMED);
+    HOLDS(rudozhev_range(RUDOZHEV_IO, 0, 0, 32) == RUDOZHEV_MALFORMED);
+    HOLDS(rudozhev_range((enum rudozhev_space)3, 0, 0, 0) == RUDOZHEV_MALFORMED);
+}
+
+static void other_words(void) {
+    HOLDS(rudozhev_place(1, RUDOZHEV_OBJECT, 32) == 352);
+    HOLDS(rudozhev_place(7, RUDOZHEV_OBJECT, 63) == RUDOZHEV_PLACES - 1);
+    HOLDS(rudozhev_place(8, RUDOZHEV_MEMORY, 0) == RUDOZHEV_PLACES);
+    HOLDS(rudozhev_place(0, RUDOZHEV_MEMORY, 64) == RUDOZHEV_PLACES);
+    HOLDS(rudozhev_place(0, (enum rudozhev_space)3, 0) == RUDOZHEV_PLACES);
+
+    HOLDS(rudozhev_delegation(23, true) == 96257);
+    HOLDS(rudozhev_delegation(5, false) == 20481);
+    HOLDS(rudozhev_delegation(UINT32_C(5) << 20 | 5, false) == 20481);
+
+    HOLDS(rudozhev_counts(2, 1) == 65538);
+    HOLDS(rudozhev_counts(60, 0) == 60 && rudozhev_counts(0, 30) == 30 << 16);
+    HOLDS(rudozhev_counts(59, 1) == UINT32_MAX && rudozhev_counts(61, 0) == UINT32_MAX);
+    HOLDS(rudozhev_counts(65536, 0) == UINT32_MAX && rudozhev_counts(0, 65536) == UINT32_MAX);
+
+    HOLDS(rudozhev_qpd(1, 10000) == 40960001);
+    HOLDS(rudozhev_qpd(256, 1) == 0 && rudozhev_qpd(1, 1048576) == 0);
+}
+
+/* Whether the first breach of the tables is this one. */
+static bool breached(uint32_t rule, enum rudozhev_where where, uint32_t number, size_t object_words) {
+    struct rudozhev_breach breach =
+        rudozhev_read_damage(rudozhev_damage(tables.places, RUDOZHEV_PLACE_WORDS, tables.objects, object_words));
+    return breach.rule == rule && breach.where == where && breach.number == number;
+}
+
+/* A line of one page through the root's is sound down to the greatest depth. */
+static void depth(void) {
+    uint32_t parent = rudozhev_place(0, RUDOZHEV_MEMORY, 0), next = parent;
+    for (uint32_t depth = 1; depth <= RUDOZHEV_GREATEST_DEPTH + 1; depth++) {
+        HOLDS(breached(0, RUDOZHEV_NOWHERE, 0, RUDOZHEV_OBJECT_WORDS));
+        next = rudozhev_place(1, RUDOZHEV_MEMORY, depth);
+        const uint32_t words[RUDOZHEV_PLACE_WIDTH] = {0, 7, parent + 1, depth};
+        memcpy(tables.places + RUDOZHEV_PLACE_WIDTH * next, words, sizeof words);
+        parent = next;
+    }
+    HOLDS(breached(12, RUDOZHEV_AT_PLACE, next, RUDOZHEV_OBJECT_WORDS));
+}
+
+static void damage(void) {
+    HOLDS(breached(0, RUDOZHEV_NOWHERE, 0, RUDOZHEV_OBJECT_WORDS));
+    HOLDS(breached(1, RUDOZHEV_NOWHERE, 0, RUDOZHEV_OBJECT_WORDS - 1));
+    tables.places[RUDOZHEV_PLACE_WIDTH * 200] = 5;
+    HOLDS(breached(10, RUDOZHEV_AT_PLACE, 200, RUDOZHEV_OBJECT_WORDS));
+    tables.places[0] = 1;
+    HOLDS(breached(2, RUDOZHEV_AT_PLACE, 0, RUDOZHEV_OBJECT_WORDS));
+    tables.objects[0] = 0;
+    HOLDS(breached(2, RUDOZHEV_AT_RECORD, 0, RUDOZHEV_OBJECT_WORDS));
+}
+
+static bool boot(struct rudozhev_tables *booted) {
+    uint64_t reply = rudozhev_boot(booted->places, RUDOZHEV_PLACE_WORDS, booted->objects, RUDOZHEV_OBJECT_WORDS);
+    return rudozhev_status(reply) == RUDOZHEV_SUCCESS;
+}
+
+static void hypercalls(void) {
+    enum { PD = RUDOZHEV_ROOT_PD_SELECTOR, EC = RUDOZHEV_ROOT_EC_SELECTOR, CALLER = RUDOZHEV_ROOT_EC };
+    const uint32_t all = rudozhev_range(RUDOZHEV_OBJECT, 32, 5, RUDOZHEV_FULL_MASK);
+    const uint32_t qpd = rudozhev_qpd(3, 4000);
+    HOLDS(same(rudozhev_create_pd(&tables, CALLER, 35, PD, all), generally(RUDOZHEV_CREATE_PD, 35, PD, all, 0, 0, 0), 0));
+    HOLDS(same(rudozhev_create_ec(&tables, CALLER, 36, PD, 0, 9), generally(RUDOZHEV_CREATE_EC, 36, PD, 0, 9, 0, 0), 0));
+    HOLDS(same(rudozhev_create_sc(&tables, CALLER, 37, PD, EC, qpd), generally(RUDOZHEV_CREATE_SC, 37, PD, EC, qpd, 0, 0), 0));
+    HOLDS(same(rudozhev_create_pt(&tables, CALLER, 38, PD, 36, 7, 8, 9), generally(RUDOZHEV_CREATE_PT, 38, PD, 36, 7, 8, 9), 0));
+    HOLDS(same(rudozhev_create_sm(&tables, CALLER, 39, PD, 1), generally(RUDOZHEV_CREATE_SM, 39, PD, 1, 0, 0, 0), 0));
+    HOLDS(same(rudozhev_sm_ctrl(&tables, CALLER, 39, RUDOZHEV_DOWN), generally(RUDOZHEV_SM_CTRL, 39, 1, 0, 0, 0, 0), 0));
+    HOLDS(same(rudozhev_sm_ctrl(&tables, CALLER, 39, RUDOZHEV_DOWN), generally(RUDOZHEV_SM_CTRL, 39, 1, 0, 0, 0, 0),
+               RUDOZHEV_COM_TIM));
+    HOLDS(same(rudozhev_sm_ctrl(&tables, CALLER, 39, RUDOZHEV_UP), generally(RUDOZHEV_SM_CTRL, 39, 0, 0, 0, 0, 0), 0));
+
+    source.words[0] = rudozhev_counts(1, 1);
+    source.words[RUDOZHEV_HEADER_WORDS] = 1895;
+    source.words[RUDOZHEV_BLOCK_WORDS - 1] = rudozhev_range(RUDOZHEV_IO, 8, 3, 1);
+    source.words[RUDOZHEV_BLOCK_WORDS - 2] = rudozhev_delegation(0, true);
+    target.words[RUDOZHEV_DELEGATE_WINDOW] = rudozhev_range(RUDOZHEV_IO, 8, 3, 0);
+    general_target = target;
+    uint64_t reply = rudozhev_call(&tables, CALLER, 38, &source, &target);
+    HOLDS(same(reply, generally(RUDOZHEV_CALL, 38, 0, 0, 0, 0, 0), 0) && rudozhev_answer(reply) == 8);
+    HOLDS(target.words[RUDOZHEV_HEADER_WORDS] == 1895);
+
+    const uint32_t one = rudozhev_range(RUDOZHEV_IO, 9, 0, RUDOZHEV_FULL_MASK);
+    reply = rudozhev_lookup(&tables, CALLER, one);
+    HOLDS(same(reply, generally(RUDOZHEV_LOOKUP, one, 0, 0, 0, 0, 0), 0));
+    HOLDS(rudozhev_answer(reply) == rudozhev_range(RUDOZHEV_IO, 8, 3, 1));
+    HOLDS(same(rudozhev_revoke(&tables, CALLER, all, false), generally(RUDOZHEV_REVOKE, all, 0, 0, 0, 0, 0), 0));
+    HOLDS(same(rudozhev_revoke(&tables, CALLER, one, true), generally(RUDOZHEV_REVOKE, one, 1, 0, 0, 0, 0), 0));
+    HOLDS(rudozhev_answer(rudozhev_lookup(&tables, CALLER, one)) == RUDOZHEV_NULL);
+}
+
+/* What does not fit is refused. */
+static void refusals(void) {
+    enum { PD = RUDOZHEV_ROOT_PD_SELECTOR, EC = RUDOZHEV_ROOT_EC_SELECTOR, CALLER = RUDOZHEV_ROOT_EC };
+    const uint32_t wide = rudozhev_range(RUDOZHEV_OBJECT, 0, 7, RUDOZHEV_FULL_MASK);
+    HOLDS(rudozhev_status(rudozhev_lookup(&tables, CALLER, wide)) == RUDOZHEV_BAD_PAR);
+    HOLDS(rudozhev_status(rudozhev_revoke(&tables, CALLER, wide, false)) == RUDOZHEV_BAD_PAR);
+    HOLDS(rudozhev_status(rudozhev_create_pd(&tables, CALLER, 50, PD, wide)) == RUDOZHEV_BAD_PAR);
+    HOLDS(rudozhev_status(rudozhev_create_sc(&tables, CALLER, 50, PD, EC, rudozhev_qpd(256, 1))) == RUDOZHEV_BAD_PAR);
+    uint64_t reply = rudozhev_census(rudozhev_place(8, RUDOZHEV_MEMORY, 0), tables.places, RUDOZHEV_PLACE_WORDS,
+                                     tables.objects, RUDOZHEV_OBJECT_WORDS, NULL, 0);
+    HOLDS(rudozhev_status(reply) == RUDOZHEV_BAD_PAR);
+    source.words[0] = rudozhev_counts(0, 1);
+    source.words[RUDOZHEV_BLOCK_WORDS - 1] = wide;
+    reply = rudozhev_call(&tables, CALLER, 38, &source, &target);
+    HOLDS(rudozhev_status(reply) == RUDOZHEV_SUCCESS && rudozhev_answer(reply) == 0);
+    HOLDS(target.words[RUDOZHEV_BLOCK_WORDS - 1] == RUDOZHEV_NULL);
+    source.words[0] = rudozhev_counts(59, 1);
+    HOLDS(rudozhev_status(rudozhev_call(&tables, CALLER, 38, &source, &target)) == RUDOZHEV_BAD_PAR);
+}
+
+int main(void) {
+    descriptors();
+    other_words();
+    HOLDS(boot(&tables) && boot(&general));
+    hypercalls();
+    refusals();
+    HOLDS(boot(&tables));
+    depth();
+    HOLDS(boot(&tables));
+    damage();
+    return EXIT_SUCCESS;
+}

@@ -1,0 +1,255 @@
+//! Times the slowest calls that are known of each function, on tables made for
+//! it, and prints a line for each: the least of many runs, with the tables in the
+//! caches and with them flushed from there before each run.
+
+use std::arch::x86_64::{_mm_clflush, _mm_mfence};
+use std::hint::black_box;
+use std::time::{Duration, Instant};
+
+use rudozhev::words::{
+    self, BLOCK_WORDS, OBJECT_WORDS, PLACES, PLACE_WIDTH, PLACE_WORDS, RECORD_WIDTH,
+};
+use rudozhev::{
+    Descriptor, Domain, EventBase, Hypercall, ObjectNumber, Place, Refusal, Selector, Space, Tables,
+};
+
+const ROOT: u32 = 29;
+const RUNS: usize = 3_000;
+
+/// The objects that `furnished` makes: the EC of a domain from 2 to 7.
+const fn ec_of(domain: u32) -> u32 {
+    32 + 2 * (domain - 2)
+}
+
+/// The root's selector of the portal to domain 2.
+const PORTAL: u32 = 62;
+
+/// What a call may read and write.
+#[derive(Clone)]
+struct Lent {
+    places: [u32; PLACE_WORDS],
+    objects: [u32; OBJECT_WORDS],
+    source: [u32; BLOCK_WORDS],
+    target: [u32; BLOCK_WORDS],
+    list: [u32; PLACES as usize],
+}
+
+/// A call to time: its name, the words that it begins with, and what it answers.
+struct Case<'a> {
+    name: &'a str,
+    lent: &'a Lent,
+    call: fn(&mut Lent) -> Result<u32, Refusal>,
+    answer: u32,
+}
+
+fn selector(number: u32) -> Selector {
+    Selector::new(number).expect("a selector")
+}
+
+fn place(domain: u32, space: Space, number: u32) -> u32 {
+    Place::new(Domain::new(domain).expect("a domain"), space, selector(number)).number()
+}
+
+fn word(space: Space, base: u32, order: u32) -> u32 {
+    Descriptor::new(space, base, order, Descriptor::FULL_MASK).expect("a range").word()
+}
+
+/// Tables with seven PDs, an EC in each, and a portal of the root to domain 2's.
+fn furnished() -> Result<Lent, Refusal> {
+    let mut tables = Tables::booted();
+    let (root, pd) = (ObjectNumber::ROOT_EC, selector(32));
+    let event_base = EventBase::at(Selector::FIRST);
+    for domain in 2..8 {
+        let [new_pd, new_ec] = [2 * domain + 32, 2 * domain + 33].map(selector);
+        let initial = Descriptor::NULL;
+        tables.hypercall(root, Hypercall::CreatePd { new: new_pd, pd, initial })?;
+        tables
+            .hypercall(root, Hypercall::CreateEc { new: new_ec, pd: new_pd, cpu: 0, event_base })?;
+    }
+    let (new, ec) = (selector(PORTAL), selector(37));
+    tables.hypercall(root, Hypercall::CreatePt { new, pd, ec, mtd: 0, ip: 0, identifier: 0 })?;
+    for domain in 2..8 {
+        let record = ec_of(domain) as usize * RECORD_WIDTH;
+        assert_eq!(tables.object_words()[record..record + 2], [2, domain]);
+    }
+    Ok(Lent {
+        places: *tables.place_words(),
+        objects: *tables.object_words(),
+        source: [0; BLOCK_WORDS],
+        target: [0; BLOCK_WORDS],
+        list: [0; PLACES as usize],
+    })
+}
+
+/// Fills a null place as a delegation from its parent would.
+fn lend(lent: &mut Lent, parent: u32, child: u32) {
+    let [from, to] = [parent, child].map(|place| place as usize * PLACE_WIDTH);
+    if lent.places[to + 1] == 0 {
+        let [resource, permissions, _, depth] = lent.places[from..from + PLACE_WIDTH] else {
+            unreachable!("a place has four words")
+        };
+        let words = [resource, permissions, parent + 1, depth + 1];
+        lent.places[to..to + PLACE_WIDTH].copy_from_slice(&words);
+    }
+}
+
+/// As many places as can be are as deep as can be: in each space a line of 30
+/// from a place of domain 0 through domain 7, and from its end every other place
+/// outside domain 0 that is null.
+fn deepest() -> Result<Lent, Refusal> {
+    let mut lent = furnished()?;
+    for space in [Space::Memory, Space::Io, Space::Object] {
+        let mut parent = place(0, space, 4);
+        for depth in 0..30 {
+            let next = place(7, space, depth);
+            lend(&mut lent, parent, next);
+            parent = next;
+        }
+        for domain in 1..8 {
+            (0..64).for_each(|number| lend(&mut lent, parent, place(domain, space, number)));
+        }
+    }
+    Ok(lent)
+}
+
+/// Every page and port goes from domain 0 through the domains 2 to 7 to the root,
+/// and the message translates all pages 30 times.
+fn translated() -> Result<Lent, Refusal> {
+    let mut lent = furnished()?;
+    for space in [Space::Memory, Space::Io] {
+        for number in 0..64 {
+            let line = [0, 2, 3, 4, 5, 6, 7, 1].map(|domain| place(domain, space, number));
+            line.windows(2).for_each(|pair| lend(&mut lent, pair[0], pair[1]));
+        }
+    }
+    lent.source[0] = 30 << 16;
+    for item in lent.source[4..].chunks_mut(2) {
+        item[1] = word(Space::Memory, 0, 6);
+    }
+    lent.target[1] = word(Space::Memory, 0, 6);
+    Ok(lent)
+}
+
+/// The message delegates all pages of domain 0 to domain 2, 30 times.
+fn delegated() -> Result<Lent, Refusal> {
+    let mut lent = furnished()?;
+    lent.source[0] = 30 << 16;
+    for item in lent.source[4..].chunks_mut(2) {
+        item.copy_from_slice(&[1 << 11 | 1, word(Space::Memory, 0, 6)]);
+    }
+    lent.target[2] = word(Space::Memory, 0, 6);
+    Ok(lent)
+}
+
+fn hypercall(lent: &mut Lent, number: u32, caller: u32, a: u32, b: u32) -> Result<u32, Refusal> {
+    let arguments = [a, b, 0, 0, 0, 0];
+    let Lent { places, objects, source, target, .. } = lent;
+    words::hypercall(number, caller, arguments, places, objects, source, target)
+}
+
+fn message(lent: &mut Lent) -> Result<u32, Refusal> {
+    hypercall(lent, words::CALL, ROOT, PORTAL, 0)
+}
+
+/// Drops what a call may read from the caches.
+fn flush(lent: &Lent) {
+    let start = (lent as *const Lent).cast::<u8>();
+    for line in (0..size_of::<Lent>()).step_by(64) {
+        // SAFETY: the offset is inside `lent`, and flushing a line changes no byte.
+        unsafe { _mm_clflush(start.add(line)) };
+    }
+    // SAFETY: a fence touches no memory.
+    unsafe { _mm_mfence() };
+}
+
+/// The least time of a call over many runs, each on the same words.
+fn least(case: &Case, flushed: bool) -> Duration {
+    let mut lent = case.lent.clone();
+    let run = |_| {
+        lent.clone_from(case.lent);
+        if flushed {
+            flush(&lent);
+        }
+        let begin = Instant::now();
+        let reply = (case.call)(black_box(&mut lent));
+        let time = begin.elapsed();
+        assert_eq!(reply, Ok(case.answer), "{}", case.name);
+        time
+    };
+    (0..RUNS).map(run).min().expect("some runs")
+}
+
+/// Whether the callee is shown all pages 30 times.
+fn shows_all(mut lent: Lent) -> bool {
+    let pages = Descriptor::new(Space::Memory, 0, 6, 7).map(Descriptor::word);
+    message(&mut lent) == Ok(0) && lent.target[4..].chunks(2).all(|item| Some(item[1]) == pages)
+}
+
+fn main() -> Result<(), Refusal> {
+    let [deepest, translated, delegated] = [deepest()?, translated()?, delegated()?];
+    for lent in [&deepest, &translated, &delegated] {
+        assert!(words::is_sound(&lent.places, &lent.objects));
+    }
+    assert!(shows_all(translated.clone()));
+    let cases = [
+        Case {
+            name: "census of a page with 448 heirs",
+            lent: &deepest,
+            call: |lent| {
+                let Lent { places, objects, list, .. } = lent;
+                words::census(place(0, Space::Memory, 4), places, objects, list)
+            },
+            answer: 448,
+        },
+        Case {
+            name: "CALL that translates 30 times 64 pages",
+            lent: &translated,
+            call: message,
+            answer: 0,
+        },
+        Case {
+            name: "REVOKE of a page with 447 heirs",
+            lent: &deepest,
+            call: |lent| hypercall(lent, words::REVOKE, ec_of(7), word(Space::Memory, 0, 0), 0),
+            answer: 0,
+        },
+        Case {
+            name: "CALL that delegates 30 times 64 pages",
+            lent: &delegated,
+            call: message,
+            answer: 64,
+        },
+        Case {
+            name: "LOOKUP of a range of 64 pages",
+            lent: &translated,
+            call: |lent| hypercall(lent, words::LOOKUP, ROOT, word(Space::Memory, 0, 0), 0),
+            answer: 7 << 2 | 6 << 7 | 1,
+        },
+        Case {
+            name: "damage, of sound tables",
+            lent: &deepest,
+            call: |lent| {
+                Ok(words::damage(&lent.places, &lent.objects).map_or(0, |found| found.rule))
+            },
+            answer: 0,
+        },
+        Case {
+            name: "sound",
+            lent: &deepest,
+            call: |lent| Ok(words::is_sound(&lent.places, &lent.objects).into()),
+            answer: 1,
+        },
+        Case {
+            name: "boot",
+            lent: &deepest,
+            call: |lent| words::boot(&mut lent.places, &mut lent.objects),
+            answer: 0,
+        },
+    ];
+    println!("{:40} {:>12} {:>12}", "", "cached, ns", "flushed, ns");
+    for case in &cases {
+        let [cached, flushed] = [false, true].map(|flushed| least(case, flushed).as_nanos());
+        println!("{:40} {cached:12} {flushed:12}", case.name);
+    }
+    Ok(())
+}
