@@ -32,7 +32,7 @@ use Rattle.interface.specs.Consequences.{calleeDomain}
 use Rattle.interface.specs.Deliveries.{Due, Delegated, DelegatesTo, offsets, itemCount, sourceAt, destinationAt, Reached, before, ItemDelivered, DeliversItems}
 use Rattle.interface.proofs.BoolLaws.{cases, and-left, and-right, each-of-four}
 use Rattle.interface.proofs.VerdictLaws.{required, rule-grants, after-granted}
-use Rattle.interface.proofs.TurnLaws.{run-append, give-others}
+use Rattle.interface.proofs.TurnLaws.{run-append, filled-append, give-others}
 use Rattle.interface.proofs.TableLaws.{length-listed, take-listed}
 use Rattle.interface.proofs.NoteLaws.{fills-leaves}
 use Rattle.interface.proofs.DelegationLaws.{give-hands, gives-keep, gives-drop, item-gives, carried-gives}
@@ -82,12 +82,6 @@ not-due-same s destination source mask n =
 pub due-counts : (s : State) (destination source mask : ℕ) → Due s destination source mask → fillsOne (give destination source mask) s ≡ 1
 unfolding fillsOne
 due-counts s destination source mask due = rw (due-fills s destination source mask due)
-
--- steps after steps fill what each fill
-pub filled-append : (xs ys : List Effect) (s : State) → filled (xs ++ ys) s ≡ filled xs s + filled ys (run xs s)
-unfolding filled run
-filled-append [] ys s = omega arith
-filled-append (x ∷ xs) ys s = rw (filled-append xs ys (act x s)) (omega arith)
 
 -- an item that is not matched with its window is null, and takes no step; and one that translates takes none
 unmatched-none : (match : Match) (now : State) (sender receiver second : ℕ) → ((range window : Range) → match ≡ Both range window → ⊥) →

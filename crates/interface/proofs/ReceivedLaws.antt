@@ -18,8 +18,9 @@ use Rattle.interface.specs.Effects.{Effect, run, fillsOne, filled}
 use Rattle.interface.specs.Verdicts.{Call}
 use Rattle.interface.specs.Message.{headWords, untypedCount, descriptorAt, secondAt, delegateBit, receivedWord, Item, sourceDomain, delegateItem, untypedCopied, carried}
 use Rattle.interface.specs.Deliveries.{Due, untyped, itemCount, DelegatesTo, offsets, hotBase, sourceAt, destinationAt, before, DelegateShown, TranslateShown, WordsDelivered, DeliversWords}
+use Rattle.interface.proofs.TurnLaws.{filled-append}
 use Rattle.interface.proofs.TableLaws.{take-listed}
-use Rattle.interface.proofs.DeliveryLaws.{not-due-same, due-counts, filled-append, movedBefore, stateBefore, outcome, stepAt, before-first, outcome-delegates, steps-listed, outcome-unmatched, outcome-translates, CallGranted, call-granted}
+use Rattle.interface.proofs.DeliveryLaws.{not-due-same, due-counts, movedBefore, stateBefore, outcome, stepAt, before-first, outcome-delegates, steps-listed, outcome-unmatched, outcome-translates, CallGranted, call-granted}
 
 -- A copy into a list: its words before the copy, in it, and after it.
 module _ (into from : List ℕ) (at size : ℕ) (fits : at + size ≤ length into) (enough : size ≤ length from) where
@@ -47,7 +48,7 @@ module _ (into from : List ℕ) (at size : ℕ) (fits : at + size ≤ length int
       ap (word (paste into at from size)) rest ∙ getD-append-add head (drop (at + size) into) (i - (at + size)) 0 ∙
       getD-drop (at + size) into (i - (at + size)) 0 ∙ ap (word into) back
 
--- How many places steps fill that are listed: none where no step does, and some where one does.
+-- How many places listed steps fill: none where no step does, and some where one does.
 module _ (step : ℕ → Effect) (s : State) where
   listed-next : (n : ℕ) → filled (listed (suc n) step) s ≡ filled (listed n step) s + fillsOne (step n) (run (listed n step) s)
   unfolding listed filled
@@ -62,19 +63,19 @@ module _ (step : ℕ → Effect) (s : State) where
       le-ind (λ (m : ℕ). filled (listed m step) s ≡ 0 → ⊥) (λ none. omega (arith, listed-next i))
       (λ m b ih none. ih (omega (arith, listed-next m))) n l
 
--- Items' words stand apart.
+-- The words of two items are four.
 module _ (item later : ℕ) (after-it : item < later) (few : later < 30) where
-  first-first : descriptorAt item ≢ descriptorAt later
-  first-first = omega arith
+  descriptors-apart : descriptorAt item ≢ descriptorAt later
+  descriptors-apart = omega arith
 
-  first-second : descriptorAt item ≢ secondAt later
-  first-second = omega arith
+  descriptor-off-second : descriptorAt item ≢ secondAt later
+  descriptor-off-second = omega arith
 
-  second-first : secondAt item ≢ descriptorAt later
-  second-first = omega arith
+  second-off-descriptor : secondAt item ≢ descriptorAt later
+  second-off-descriptor = omega arith
 
-  second-second : secondAt item ≢ secondAt later
-  second-second = omega arith
+  seconds-apart : secondAt item ≢ secondAt later
+  seconds-apart = omega arith
 
 module _ (s : State) (c : Call) where
   -- the block after some items
@@ -122,10 +123,10 @@ module _ (s : State) (c : Call) where
         ))
         (λ m b ih few-now.
         let soon : m < 30 = few-now in
-        let f-f = first-first item m b soon in
-        let f-s = first-second item m b soon in
-        let s-f = second-first item m b soon in
-        let s-s = second-second item m b soon in
+        let descriptors = descriptors-apart item m b soon in
+        let descriptor-second = descriptor-off-second item m b soon in
+        let second-descriptor = second-off-descriptor item m b soon in
+        let seconds = seconds-apart item m b soon in
         let as-before = ih (omega arith) in
         (rw (getD-set-other, getD-set-other) (as-before .0), rw (getD-set-other, getD-set-other) (as-before .1)))
         n l few

@@ -1,5 +1,5 @@
 -- Laws of steps in turn: of two lists of steps, and of delegations, which leave the records alone and every place that is none of their destinations.
-use Prim.Native.Nat.{ℕ, zero, suc, _<_}
+use Prim.Native.Nat.{ℕ, zero, suc, _+_, _<_}
 use mathlib.Core.Path.{_≡_, refl, sym, _∙_}
 use mathlib.Core.Bool.{Bool, true, false}
 use mathlib.Core.List.{List, [], _∷_, _++_}
@@ -10,17 +10,22 @@ use Rattle.descriptor.specs.declared.Reply.{Reply}
 use Rattle.interface.specs.Basics.{listed}
 use Rattle.interface.specs.Places.{State}
 use Rattle.interface.specs.Damage.{hasPd}
-use Rattle.interface.specs.Effects.{Effect, give, fills, act, run}
+use Rattle.interface.specs.Effects.{Effect, give, fills, act, run, filled}
 use Rattle.interface.specs.Verdicts.{Verdict, refuse, require_else_then_, effectsOf}
 use Rattle.interface.proofs.BoolLaws.{cases}
 use Rattle.interface.proofs.PutLaws.{put-other}
 use Rattle.interface.proofs.Steps.{GiveFits, FitInTurn}
 
--- steps after steps: the state they leave, and that they fit
+-- steps after steps: the state they leave, how many places they fill, and that they fit
 pub run-append : (xs ys : List Effect) (s : State) → run (xs ++ ys) s ≡ run ys (run xs s)
 unfolding run
 run-append [] ys s = refl
 run-append (x ∷ xs) ys s = run-append xs ys (act x s)
+
+pub filled-append : (xs ys : List Effect) (s : State) → filled (xs ++ ys) s ≡ filled xs s + filled ys (run xs s)
+unfolding filled run
+filled-append [] ys s = omega arith
+filled-append (x ∷ xs) ys s = rw (filled-append xs ys (act x s)) (omega arith)
 
 pub fit-append : (xs ys : List Effect) (s : State) → FitInTurn xs s → FitInTurn ys (run xs s) → FitInTurn (xs ++ ys) s
 unfolding run
