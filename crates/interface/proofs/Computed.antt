@@ -21,20 +21,15 @@ use Rattle.interface.specs.Journal.{bodyBytes, bodyWord, recordedCall, r
 use Rattle.interface.specs.Examples.{Each, calledExamples, neighbour, messageCap, messageRecord, messageState, blockBefore, blockReceived, exampleMessage, WorkedExamples, MessageExample, JournalExample, exampleRange, RangeExample, LayoutExamples}
 use Rattle.interface.proofs.VerdictLaws.{after-granted}
 
--- a proof of a first statement and of those after it
-infixr 3 _and_
-abbrev _and_ : {A B : Type 0} → A → B → A × B
-a and b = (a, b)
-
 called-examples : Each calledExamples
 unfolding spaceOf wellFormed wrapped reading put allBelow anyBelow countBelow all any bootRecord hypervisorCap rootCap bootCap fixed-record fixed-place interrupt-rule unnamed-rule used-first pdsBelow pd-rule hasPd isEc ec-rule sc-rule pt-rule null-place live-place shallow keeps soundState chain ancestors below stripped cutCaps act run revoke hypercall called rules after
-called-examples = refl and refl and refl and refl and refl and refl and refl and refl and refl and refl and refl and tt
+called-examples = (refl, (refl, (refl, (refl, (refl, (refl, (refl, (refl, (refl, (refl, (refl, tt)))))))))))
 
 pub computed : WorkedExamples × JournalExample
 unfolding spaceOf wellFormed wrapped reading put listed allBelow anyBelow countBelow lowest all any bootRecord hypervisorCap rootCap bootCap fixed-record fixed-place interrupt-rule unnamed-rule used-first pdsBelow pd-rule hasPd isEc ec-rule sc-rule pt-rule null-place live-place shallow keeps soundState chain ancestors below fills stripped cutCaps act run freeRecord creation createSm uniform largest around found lookup hypercall called rules after bodyBytes bodyWord recordedCall replayFrom width spelled spelledLines
 computed = (
-  refl and refl and refl and refl and refl and refl and refl and refl and refl and refl and refl and refl and refl and refl and refl and refl and refl and refl and called-examples and tt,
-  refl and refl and tt,
+  (refl, (refl, (refl, (refl, (refl, (refl, (refl, (refl, (refl, (refl, (refl, (refl, (refl, (refl, (refl, (refl, (refl, (refl, (called-examples, tt))))))))))))))))))),
+  (refl, (refl, tt)),
 )
 
 -- the message: its state is sound, its call comes to these steps, and those leave these places
@@ -113,7 +108,9 @@ computed-range = (
 pub layout-computed : LayoutExamples
 unfolding spaceOf listed bootRecord hypervisorCap rootCap bootCap hypercall bodyBytes
 layout-computed =
-    refl and refl and refl and refl and refl and refl and refl and refl and refl and refl and refl and refl and refl and refl and refl and refl and refl and refl and
-    refl and refl and refl and refl and refl and refl and refl and refl and refl and refl and refl and refl and refl and refl and refl and refl and refl and refl and
-    refl and refl and refl and refl and refl and refl and refl and refl and refl and refl and refl and refl and refl and refl and refl and refl and refl and refl and
-    tt
+    record {
+      hypercall-numbers = (refl, (refl, (refl, (refl, (refl, (refl, (refl, (refl, (refl, (refl, (refl, (refl, (refl, (refl, tt))))))))))))));
+      layout-numbers = (refl, (refl, (refl, (refl, (refl, (refl, (refl, (refl, (refl, (refl, (refl, (refl, (refl, (refl, tt))))))))))))));
+      boot-numbers = (refl, (refl, (refl, (refl, (refl, (refl, (refl, (refl, (refl, (refl, (refl, (refl, (refl, (refl, (refl, (refl, (refl, (refl, (refl, (refl, (refl, tt)))))))))))))))))))));
+      field-numbers = (refl, (refl, (refl, (refl, (refl, tt)))));
+    }

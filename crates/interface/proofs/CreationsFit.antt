@@ -13,7 +13,6 @@ use Rattle.descriptor.specs.declared.Range.{Range}
 use Rattle.descriptor.specs.declared.Reading.{Reading}
 use Rattle.descriptor.specs.declared.Reading.the-variants.{Null, Malformed, Good}
 use Rattle.descriptor.specs.declared.Reply.{Reply}
-use Rattle.descriptor.specs.declared.Reply.the-variants.{BadCap, BadCpu, BadPar, NoRoom}
 use Rattle.descriptor.specs.Descriptors.{Proper}
 use Rattle.descriptor.proofs.DescriptorLaws.{good-proper}
 use Rattle.interface.specs.Basics.{word, allBelow}
@@ -22,7 +21,7 @@ use Rattle.interface.specs.Boot.{cpus}
 use Rattle.interface.specs.Damage.{unnamed-rule, pdsBelow, pd-rule, hasPd, isEc, ec-rule, between1, sc-rule, pt-rule}
 use Rattle.interface.specs.Descriptors.{reading}
 use Rattle.interface.specs.Effects.{Effect, make, hold, act, run}
-use Rattle.interface.specs.Verdicts.{Call, Verdict, refuse, grant, require_else_then_, effectsOf, callerDomain}
+use Rattle.interface.specs.Verdicts.{Call, Verdict, refuse, grant, effectsOf, callerDomain}
 use Rattle.interface.specs.Creations.{newPlace, pdPlace, ecPlace, freeRecord, nextDomain, Creation, creation, initialGood, initialGives, priority, quantum, createPd, createEc, createSc, createPt, createSm}
 use Rattle.interface.proofs.BoolLaws.{and-left, and-right, both, asked-anyway}
 use Rattle.interface.proofs.BelowLaws.{count-below-same}
@@ -141,25 +140,10 @@ pub granted-so : (P : Verdict → Type 0) (s : State) (c : Call) (new : Creation
     (Granted s c new → P (grant 0 (stepsOf s c new) (c .target))) → P (creation s c new)
 unfolding creation
 granted-so P s c new refused f =
-    let given = grant 0 (stepsOf s c new) (c .target) in
     let has-room = ltb (freeRecord s) records in
-    let with-room = require has-room && new .domain-left else NoRoom then given in
-    let with-parameters = require new .parameters-good else BadPar then with-room in
-    let with-cpu = require new .cpu-good else BadCpu then with-parameters in
-    let with-ec = require new .bindable else BadCap then with-cpu in
-    let with-pd = require permitted s (pdPlace s c) PD (createBit (new .kind)) else BadCap then with-ec in
-    require-so P (not (live (s .caps (newPlace s c)))) BadCap with-pd (refused BadCap)
-    (λ null.
-    require-so P (permitted s (pdPlace s c) PD (createBit (new .kind))) BadCap with-ec (refused BadCap)
-    (λ by-pd.
-    require-so P (new .bindable) BadCap with-cpu (refused BadCap)
-    (λ bound.
-    require-so P (new .cpu-good) BadCpu with-parameters (refused BadCpu)
-    (λ on-cpu.
-    require-so P (new .parameters-good) BadPar with-room (refused BadPar)
-    (λ parameters.
-    require-so P (has-room && new .domain-left) NoRoom given (refused NoRoom)
-    (λ room.
+    let granted : not (live (s .caps (newPlace s c))) ≡ true → permitted s (pdPlace s c) PD (createBit (new .kind)) ≡ true → new .bindable ≡ true → new .cpu-good ≡ true →
+    new .parameters-good ≡ true → (has-room && new .domain-left) ≡ true → P (grant 0 (stepsOf s c new) (c .target)) =
+    λ null by-pd bound on-cpu parameters room.
     f
     (record {
       null = not-true (live (s .caps (newPlace s c))) null;
@@ -169,7 +153,8 @@ granted-so P s c new refused f =
       parameters = parameters;
       room = ltb-true (freeRecord s) records (and-left has-room (new .domain-left) room);
       domain = and-right has-room (new .domain-left) room;
-    })))))))
+    }) in
+    search (require-so P, refused, granted) depth 20
 
 -- initial delegations that fit, and leave the new place null
 pub record Initial (s : State) (c : Call) (new : Creation) : Type 0 where
@@ -264,7 +249,7 @@ module _ (s : State) (c : Call) (k : Sound s) (e : isEc s (c .caller) ≡ true) 
       let at-home =
       has-pd s parent (s .objects parent domainWord) (own-record s k (c .caller) (c .second) PD (createBit EC) e (granted .by-pd))
       (permitted-kind s (pdPlace s c) PD (createBit EC) (granted .by-pd)) refl in
-      ec-fits s k (granted .room) (s .objects parent domainWord) (c .third) (c .fourth % selectors object) at-home (granted .on-cpu) (omega arith))
+      ec-fits s k (granted .room) _ _ _ at-home (granted .on-cpu) (omega arith))
       (λ granted. no-initial s c _ refl)
 
   -- the EC that a creation binds to
@@ -277,7 +262,7 @@ module _ (s : State) (c : Call) (k : Sound s) (e : isEc s (c .caller) ≡ true) 
       let some-priority = not (eqb (priority (c .fourth)) 0) in
       let some-quantum = not (eqb (quantum (c .fourth)) 0) in
       creation-fits s c _ k e
-      (λ granted. sc-fits s k (granted .room) (objectIn s (ecPlace s c)) (priority (c .fourth)) (quantum (c .fourth)) (bound-ec bindScBit (granted .bound))
+      (λ granted. sc-fits s k (granted .room) _ _ _ (bound-ec bindScBit (granted .bound))
       (from-1 255 (priority (c .fourth)) (and-left some-priority some-quantum (granted .parameters)) (omega arith))
       (from-1 1048575 (quantum (c .fourth)) (and-right some-priority some-quantum (granted .parameters)) (omega arith)))
       (λ granted. no-initial s c _ refl)
@@ -286,9 +271,9 @@ module _ (s : State) (c : Call) (k : Sound s) (e : isEc s (c .caller) ≡ true) 
   unfolding createPt
   pt-creation-fits =
       creation-fits s c _ k e
-      (λ granted. pt-fits s k (granted .room) (objectIn s (ecPlace s c)) (c .fourth) (c .fifth) (c .sixth) (bound-ec bindPtBit (granted .bound)))
+      (λ granted. pt-fits s k (granted .room) _ _ _ _ (bound-ec bindPtBit (granted .bound)))
       (λ granted. no-initial s c _ refl)
 
   pub sm-creation-fits : FitInTurn (effectsOf (createSm s c)) s
   unfolding createSm
-  sm-creation-fits = creation-fits s c _ k e (λ granted. sm-fits s k (granted .room) (c .third)) (λ granted. no-initial s c _ refl)
+  sm-creation-fits = creation-fits s c _ k e (λ granted. sm-fits s k (granted .room) _) (λ granted. no-initial s c _ refl)

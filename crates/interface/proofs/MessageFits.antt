@@ -2,13 +2,12 @@
 use mathlib.Core.Logic.{_⊎_, inl, inr, ⊎-elim}
 use Prim.Native.Nat.{ℕ, zero, suc, _+_, _^_, _≤_, _<_}
 use mathlib.Core.Path.{_≡_, refl, sym, subst}
-use mathlib.Core.Bool.{Bool, true, false, cond, not, _&&_}
+use mathlib.Core.Bool.{Bool, true, false, cond, _&&_}
 use mathlib.Core.List.{List}
 use native.Mathlib.Omega.{arith}
 use lib.Dec.{eqb}
-use lib.ListN.{length}
 use borrow.Author.Tests.{eqb-true}
-use Rattle.words.specs.Sizes.{domains, selectors, placeOf, blockWords}
+use Rattle.words.specs.Sizes.{domains, selectors, placeOf}
 use Rattle.words.proofs.RangeLaws.{ends-inside}
 use Rattle.descriptor.specs.declared.Range.{Range}
 use Rattle.descriptor.specs.declared.Reading.{Reading}
@@ -16,18 +15,17 @@ use Rattle.descriptor.specs.declared.Reading.the-variants.{Null, Malformed, Goo
 use Rattle.descriptor.specs.declared.Match.{Match}
 use Rattle.descriptor.specs.declared.Match.the-variants.{Both, Neither}
 use Rattle.descriptor.specs.declared.Reply.{Reply}
-use Rattle.descriptor.specs.declared.Reply.the-variants.{ComTim, BadCap, BadPar, BadCpu}
 use Rattle.descriptor.specs.declared.Reason.the-variants.{TypesDiffer}
 use Rattle.descriptor.specs.Descriptors.{Proper}
 use Rattle.descriptor.proofs.DescriptorLaws.{good-proper}
 use Rattle.interface.specs.Basics.{word, if_then_else_}
-use Rattle.interface.specs.Places.{State, PT, ecWord, domainWord, cpuWord, callBit, objectPlace, permitted, objectIn}
+use Rattle.interface.specs.Places.{State, PT, ecWord, domainWord, callBit, objectPlace, permitted, objectIn}
 use Rattle.interface.specs.Boot.{hypervisor, root}
 use Rattle.interface.specs.Damage.{hasPd, isEc}
 use Rattle.interface.specs.Descriptors.{reading, matched}
 use Rattle.interface.specs.Effects.{run}
-use Rattle.interface.specs.Verdicts.{Call, Verdict, refuse, grant, require_else_then_, effectsOf, callerDomain}
-use Rattle.interface.specs.Message.{translateWindow, delegateWindow, typedCount, payloadFits, descriptorAt, secondAt, delegateBit, hotspotField, Item, sourceDomain, smallerOrder, raisedBase, delegateItem, translateItem, itemOf, carried, transfer, hypervisorBit}
+use Rattle.interface.specs.Verdicts.{Call, Verdict, refuse, grant, effectsOf, callerDomain}
+use Rattle.interface.specs.Message.{translateWindow, delegateWindow, typedCount, descriptorAt, secondAt, delegateBit, hotspotField, Item, sourceDomain, smallerOrder, raisedBase, delegateItem, translateItem, itemOf, carried, transfer, hypervisorBit}
 use Rattle.interface.specs.PortalCalls.{portalCall}
 use Rattle.interface.proofs.BoolLaws.{either-way}
 use Rattle.interface.proofs.Soundness.{Sound}
@@ -154,24 +152,7 @@ pub call-so : (P : Verdict → Type 0) (s : State) (c : Call) → ((reply : Repl
     let moved = transfer s (callerDomain s c) (s .objects (s .objects (objectIn s portal) ecWord) domainWord) (c .source) (c .target) in
     (permitted s portal PT callBit ≡ true → P (grant (moved .filled) (moved .effects) (moved .block))) → P (portalCall s c)
 unfolding portalCall
-call-so P s c refused f =
-    let portal = objectPlace (callerDomain s c) (c .first) in
-    let callee = s .objects (objectIn s portal) ecWord in
-    let moved = transfer s (callerDomain s c) (s .objects callee domainWord) (c .source) (c .target) in
-    let granted = grant (moved .filled) (moved .effects) (moved .block) in
-    let with-payload = require payloadFits (word (c .source) 0) else BadPar then granted in
-    let with-cpu = require eqb (s .objects callee cpuWord) (s .objects (c .caller) cpuWord) else BadCpu then with-payload in
-    let with-callee = require not (eqb callee (c .caller)) else ComTim then with-cpu in
-    let with-portal = require permitted s portal PT callBit else BadCap then with-callee in
-    let blocks = eqb (length (c .source)) blockWords && eqb (length (c .target)) blockWords in
-    require-so P blocks BadPar with-portal (refused BadPar)
-    (λ _.
-    require-so P (permitted s portal PT callBit) BadCap with-callee (refused BadCap)
-    (λ p.
-    require-so P (not (eqb callee (c .caller))) ComTim with-cpu (refused ComTim)
-    (λ _.
-    require-so P (eqb (s .objects callee cpuWord) (s .objects (c .caller) cpuWord)) BadCpu with-payload (refused BadCpu)
-    (λ _. require-so P (payloadFits (word (c .source) 0)) BadPar granted (refused BadPar) (λ _. f p)))))
+call-so P s c refused f = search (require-so P, refused, f) depth 20
 
 -- the receiver is the portal's EC, whose domain has a PD
 pub call-fits : (s : State) (c : Call) → Sound s → isEc s (c .caller) ≡ true → FitInTurn (effectsOf (portalCall s c)) s

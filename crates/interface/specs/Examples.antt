@@ -298,9 +298,9 @@ bootWords number = listed recordWords (boot .objects number)
 abbrev pub bootPlace : ℕ → List ℕ
 bootPlace place = capWords (boot .caps place)
 
--- The numbers of the layout, each against the manual's
-abbrev pub LayoutExamples : Type 0
-LayoutExamples =
+-- the numbers of the hypercalls
+abbrev pub HypercallNumbers : Type 0
+HypercallNumbers =
     Each
     ( -- the hypercalls 0, 2 to 8 and 11 are built, and the numbers between and after them are not
     (hypercall 0 ≡ rule portalCall)
@@ -318,7 +318,13 @@ LayoutExamples =
     ∷ (hypercall 12 ≡ not-built)
     ∷  -- by their names
     (CALL ∷ CREATE-PD ∷ CREATE-EC ∷ CREATE-SC ∷ CREATE-PT ∷ CREATE-SM ∷ REVOKE ∷ LOOKUP ∷ SM-CTRL ∷ [] ≡ 0 ∷ 2 ∷ 3 ∷ 4 ∷ 5 ∷ 6 ∷ 7 ∷ 8 ∷ 11 ∷ [])
-    ∷  -- the kinds, and how many words each names
+    ∷ [])
+
+-- the numbers of kinds, words, permissions, bodies, statuses and places
+abbrev pub LayoutNumbers : Type 0
+LayoutNumbers =
+    Each
+    ( -- the kinds, and how many words each names
     (free ∷ PD ∷ EC ∷ SC ∷ PT ∷ SM ∷ [] ≡ 0 ∷ 1 ∷ 2 ∷ 3 ∷ 4 ∷ 5 ∷ [])
     ∷ (listed 6 namedWords ≡ 0 ∷ 1 ∷ 3 ∷ 3 ∷ 4 ∷ 1 ∷ [])
     ∷  -- which word of a record is which: the kind; an EC's (and a PD's) domain, the CPU, the event base
@@ -349,7 +355,13 @@ LayoutExamples =
     64 ∷ 128 ∷ 352 ∷ 1535 ∷ 1536 ∷ 6144 ∷ 320 ∷ [])
     ∷  -- an object selector wraps: the root's 96 is its 32
     (objectPlace 1 96 ≡ 352)
-    ∷  -- boot's records: the first and the last idle SC, the first and the last interrupt semaphore, the root's PD, EC and SC, and the first that is free
+    ∷ [])
+
+-- the words of records and places at boot
+abbrev pub BootNumbers : Type 0
+BootNumbers =
+    Each
+    ( -- boot's records: the first and the last idle SC, the first and the last interrupt semaphore, the root's PD, EC and SC, and the first that is free
     (bootWords 0 ≡ 3 ∷ 64 ∷ 0 ∷ 0 ∷ 0 ∷ [])
     ∷ (bootWords 3 ≡ 3 ∷ 64 ∷ 0 ∷ 0 ∷ 0 ∷ [])
     ∷ (bootWords 4 ≡ 5 ∷ 0 ∷ 0 ∷ 0 ∷ 0 ∷ [])
@@ -373,7 +385,13 @@ LayoutExamples =
     ∷ (bootPlace 355 ≡ 0 ∷ 0 ∷ 0 ∷ 0 ∷ [])
     ∷ (bootPlace 192 ≡ 0 ∷ 0 ∷ 0 ∷ 0 ∷ [])
     ∷ (bootPlace 384 ≡ 0 ∷ 0 ∷ 0 ∷ 0 ∷ [])
-    ∷  -- the fields of a descriptor, type 3, mask 21, order 2 and base 40; and of a QPD, priority 1 and quantum 10,000, whose bits 8 to 11 are ignored
+    ∷ [])
+
+-- the fields of words, and the words of a message block
+abbrev pub FieldNumbers : Type 0
+FieldNumbers =
+    Each
+    ( -- the fields of a descriptor, type 3, mask 21, order 2 and base 40; and of a QPD, priority 1 and quantum 10,000, whose bits 8 to 11 are ignored
     (typeField 164183 ∷ maskField 164183 ∷ orderField 164183 ∷ baseField 164183 ∷ [] ≡ 3 ∷ 21 ∷ 2 ∷ 40 ∷ [])
     ∷ (priority 40963841 ∷ quantum 40963841 ∷ [] ≡ 1 ∷ 10000 ∷ [])
     ∷  -- the message block: its words, those before the payload, the payload's, and the windows for translate and delegate
@@ -383,3 +401,10 @@ LayoutExamples =
     ∷  -- an item's second word: delegate, with hotspot 23; and translate, with H
     (delegateBit 94209 ∷ hypervisorBit 94209 ∷ hotspotField 94209 ∷ delegateBit 2048 ∷ hypervisorBit 2048 ∷ hotspotField 2048 ∷ [] ≡ 1 ∷ 0 ∷ 23 ∷ 0 ∷ 1 ∷ 0 ∷ [])
     ∷ [])
+
+-- The numbers of the layout are the manual's
+pub record LayoutExamples : Type 0 where
+  pub hypercall-numbers : HypercallNumbers
+  pub layout-numbers : LayoutNumbers
+  pub boot-numbers : BootNumbers
+  pub field-numbers : FieldNumbers
