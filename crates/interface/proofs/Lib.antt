@@ -42,6 +42,7 @@ pub mod CheckLaws
 pub mod RefusalLaws
 pub mod CreationRefusals
 pub mod OtherRefusals
+pub mod DispatchRefusals
 pub mod CreatedLaws
 pub mod DeliveryLaws
 pub mod ReceivedLaws

@@ -3,7 +3,7 @@
 use Prim.Native.Nat.{ℕ, _+_, _-_, _*_, _≤_, _<_}
 use mathlib.Core.Path.{_≡_}
 use mathlib.Core.Logic.{_↔_, _⊎_}
-use mathlib.Core.Bool.{true}
+use mathlib.Core.Bool.{true, false}
 use mathlib.Core.List.{List, [], _∷_}
 use lib.ListN.{length}
 use Rattle.words.specs.Fields.{bits, greatestWord}
@@ -12,7 +12,7 @@ use Rattle.descriptor.specs.Replies.{statusOf}
 use Rattle.descriptor.specs.declared.Range.{Range}
 use Rattle.descriptor.specs.declared.Reading.the-variants.{Malformed, Good}
 use Rattle.descriptor.specs.declared.Reply.{Reply}
-use Rattle.descriptor.specs.declared.Reply.the-variants.{Success, ComTim, BadCap, BadPar, BadCpu, NoRoom, Short}
+use Rattle.descriptor.specs.declared.Reply.the-variants.{Success, ComTim, BadHyp, BadCap, BadPar, BadCpu, NoRoom, BadCaller, Short}
 use Rattle.interface.specs.Basics.{word, member}
 use Rattle.interface.specs.Places.{State, Tables, shown, free, PD, EC, SC, PT, SM, ecWord, cpuWord, countWord, createBit, bindScBit, bindPtBit, callBit, kindOf, objectPlace, objectIn}
 use Rattle.interface.specs.Damage.{soundState, sound, hasPd, isEc}
@@ -36,10 +36,24 @@ Answers s c reply = replyOf (rules s c) ≡ reply
 abbrev pub StatusAmong : List ℕ → State → Call → Type 0
 StatusAmong statuses s c = member (statusOf (replyOf (rules s c))) statuses ≡ true
 
+-- the numbers of the hypercalls that are built
+abbrev pub builtNumbers : List ℕ
+builtNumbers = 0 ∷ 2 ∷ 3 ∷ 4 ∷ 5 ∷ 6 ∷ 7 ∷ 8 ∷ 11 ∷ []
+
+-- a number is that of a record of kind EC
+abbrev pub NamesEc : State → ℕ → Type 0
+NamesEc s number = (number < records) × (kindOf s number ≡ EC)
+
 -- a cause behind a check: the check was passed, and the cause applies
 infixr 3 _and-then_
 abbrev pub _and-then_ : Type 0 → Type 0 → Type 0
 passed and-then cause = passed × cause
+
+-- On a sound state BAD_HYP is answered exactly for a number that is not built, and BAD_CALLER exactly for a built one and a caller that is no EC number
+pub record DispatchRefusedExactly : Type 0 where
+  pub bad-hyp : (s : State) (c : Call) → soundState s ≡ true → Answers s c BadHyp ↔ (member (c .number) builtNumbers ≡ false)
+  pub bad-caller : (s : State) (c : Call) → soundState s ≡ true → Answers s c BadCaller ↔
+      ((member (c .number) builtNumbers ≡ true) and-then (NamesEc s (c .caller) → ⊥))
 
 -- a place holds a capability for an object of a kind with the permission of a bit's number: it is live, names a record of that kind, and its permissions have that bit
 pub record Holds (s : State) (place kind bit : ℕ) : Type 0 where
