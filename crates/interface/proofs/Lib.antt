@@ -43,6 +43,7 @@ pub mod RefusalLaws
 pub mod CreationRefusals
 pub mod OtherRefusals
 pub mod DispatchRefusals
+pub mod MalformedLaws
 pub mod CreatedLaws
 pub mod DeliveryLaws
 pub mod ReceivedLaws

@@ -1,6 +1,6 @@
 -- Refusals: each refusal of a call by an EC on a sound state has exactly its cause, and the call is granted exactly where none applies. The causes are facts of what the tables
 -- show and of the call's words; a cause behind a check says too that the check was passed.
-use Prim.Native.Nat.{ℕ, _+_, _-_, _*_, _≤_, _<_}
+use Prim.Native.Nat.{ℕ, _+_, _-_, _*_, _%_, _^_, _≤_, _<_}
 use mathlib.Core.Path.{_≡_}
 use mathlib.Core.Logic.{_↔_, _⊎_}
 use mathlib.Core.Bool.{true, false}
@@ -16,7 +16,7 @@ use Rattle.descriptor.specs.declared.Reply.the-variants.{Success, ComTim, BadHy
 use Rattle.interface.specs.Basics.{word, member}
 use Rattle.interface.specs.Places.{State, Tables, shown, free, PD, EC, SC, PT, SM, ecWord, cpuWord, countWord, createBit, bindScBit, bindPtBit, callBit, kindOf, objectPlace, objectIn}
 use Rattle.interface.specs.Damage.{soundState, sound, hasPd, isEc}
-use Rattle.interface.specs.Descriptors.{reading}
+use Rattle.interface.specs.Descriptors.{typeField, orderField, baseField, reading}
 use Rattle.interface.specs.Effects.{Effect}
 use Rattle.interface.specs.Verdicts.{Call, CALL, CREATE-PD, CREATE-EC, CREATE-SC, CREATE-PT, CREATE-SM, REVOKE, LOOKUP, SM-CTRL, callerDomain, grant, replyOf}
 use Rattle.interface.specs.Creations.{newPlace, pdPlace, ecPlace}
@@ -48,6 +48,17 @@ NamesEc s number = (number < records) × (kindOf s number ≡ EC)
 infixr 3 _and-then_
 abbrev pub _and-then_ : Type 0 → Type 0 → Type 0
 passed and-then cause = passed × cause
+
+-- a word that is no descriptor: its type is not 0, and its order is above 6, or its base is no multiple of 2 ^ order, or it is of memory or I/O and ends past 64
+abbrev pub NoDescriptor : ℕ → Type 0
+NoDescriptor word =
+    (typeField word ≡ 0 → ⊥) and-then
+    ((6 < orderField word) ⊎
+    ((baseField word % 2 ^ orderField word ≡ 0 → ⊥) ⊎ ((typeField word ≡ 3 → ⊥) and-then (64 < baseField word + 2 ^ orderField word))))
+
+-- A word is read as malformed exactly where it is no descriptor
+abbrev pub MalformedExactly : Type 0
+MalformedExactly = (word : ℕ) → (reading word ≡ Malformed) ↔ NoDescriptor word
 
 -- On a sound state BAD_HYP is answered exactly for a number that is not built, and BAD_CALLER exactly for a built one and a caller that is no EC number
 pub record DispatchRefusedExactly : Type 0 where

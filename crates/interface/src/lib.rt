@@ -1,7 +1,7 @@
 // The interface as definitions (specs/) and what is proved of them: each function here promises one statement and does nothing, so that its proof is the
 // statement's.
 ghost use Rattle.interface.specs.Consequences.{StaysSound, DamagedExactly, RefusedStays, NothingIsNothing, AddsNoPermission, RevokesExactly};
-ghost use Rattle.interface.specs.Refusals.{CallRefusedExactly, CreationsRefusedExactly, SmCtrlRefusedExactly, LookupRefusedExactly, RevokeRefusedExactly, CensusRefusedExactly, DispatchRefusedExactly};
+ghost use Rattle.interface.specs.Refusals.{CallRefusedExactly, CreationsRefusedExactly, SmCtrlRefusedExactly, LookupRefusedExactly, RevokeRefusedExactly, CensusRefusedExactly, DispatchRefusedExactly, MalformedExactly};
 ghost use Rattle.interface.specs.Created.{CreatedExactly};
 ghost use Rattle.interface.specs.Deliveries.{DeliversItems, DeliversWords, DeliversRange};
 ghost use Rattle.interface.specs.Translations.{TranslatesExactly};
@@ -113,6 +113,11 @@ pub fn translates_exactly()
 // BAD_HYP is answered exactly for a number that is not built, and BAD_CALLER exactly for a caller that is no EC number.
 pub fn dispatch_refused_exactly()
     ensures { λ r. ⌜ DispatchRefusedExactly ⌝ }
+{}
+
+// A word is read as malformed exactly for its type, order and base.
+pub fn malformed_exactly()
+    ensures { λ r. ⌜ MalformedExactly ⌝ }
 {}
 
 // Every worked example follows from the definitions.
