@@ -4,14 +4,15 @@ use mathlib.Core.Path.{_≡_}
 use mathlib.Core.Bool.{Bool, true, false}
 use mathlib.Core.List.{List, [], _∷_}
 use lib.Dec.{eqb}
-use Rattle.words.specs.Sizes.{memory, object, placeOf, io, places, recordWords, blockWords}
+use Rattle.words.specs.Sizes.{memory, object, placeOf, io, places, recordWords, blockWords, domains, records, greatestDepth}
+use Rattle.words.specs.Fields.{greatestWord}
 use Rattle.words.specs.Permissions.{delegated, permits}
 use Rattle.descriptor.specs.declared.Range.{Range}
 use Rattle.descriptor.specs.declared.Reading.the-variants.{Malformed, Good}
 use Rattle.descriptor.specs.declared.Reply.the-variants.{Success, ComTim, BadHyp, BadCap, BadPar, BadCpu, NoRoom, Damaged, BadCaller, Short}
 use Rattle.interface.specs.Basics.{if_then_else_, word, listed}
 use Rattle.interface.specs.Places.{Cap, State, nothing, parentless, PD, EC, PT, domainWord, free, SC, SM, kindWord, cpuWord, eventBaseWord, ecWord, priorityWord, quantumWord, mtdWord, entryWord, identifierWord, countWord, namedWords, greatest, createBit, bindScBit, bindPtBit, callBit, objectPlace, capWords, placeTableWords, objectTableWords}
-use Rattle.interface.specs.Boot.{boot, hypervisor, root, rootEc, bootRecord}
+use Rattle.interface.specs.Boot.{boot, hypervisor, root, rootEc, bootRecord, cpus, gsis}
 use Rattle.interface.specs.Damage.{soundState}
 use Rattle.interface.specs.Descriptors.{typeOf, wordOf, reading, typeField, maskField, orderField, baseField}
 use Rattle.interface.specs.Effects.{Effect, give, act, run}
@@ -353,6 +354,8 @@ LayoutNumbers =
     ∷  -- places: the first of domain 0's I/O and object spaces, the root's PD, the last of all; how many there are, and the words of both tables
     (placeOf 0 1 0 ∷ placeOf 0 2 0 ∷ placeOf 1 2 32 ∷ placeOf 7 2 63 ∷ places ∷ placeTableWords ∷ objectTableWords ∷ [] ≡
     64 ∷ 128 ∷ 352 ∷ 1535 ∷ 1536 ∷ 6144 ∷ 320 ∷ [])
+    ∷  -- domains, records, CPUs, interrupts, the greatest depth and the greatest word
+    (domains ∷ records ∷ cpus ∷ gsis ∷ greatestDepth ∷ greatestWord ∷ [] ≡ 8 ∷ 64 ∷ 4 ∷ 24 ∷ 31 ∷ 4294967295 ∷ [])
     ∷  -- an object selector wraps: the root's 96 is its 32
     (objectPlace 1 96 ≡ 352)
     ∷ [])
