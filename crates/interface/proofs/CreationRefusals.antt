@@ -29,7 +29,7 @@ use Rattle.interface.proofs.Soundness.{Sound, sound-facts}
 use Rattle.interface.proofs.SoundObjects.{free-there, used-below-free}
 use Rattle.interface.proofs.SoundFacts.{home, numbered-home}
 use Rattle.interface.proofs.CreationsFit.{stepsOf}
-use Rattle.interface.proofs.CheckLaws.{Decides, decided, decides-other, decides-fact, decides-contrary, decides-both, Refusal, Check, checked, Cause, Passed, allAmong, verdictInTurn}
+use Rattle.interface.proofs.ChecksInTurn.{Decides, decided, decides-other, decides-fact, decides-contrary, decides-both, Refusal, Check, checked, Cause, Passed, allAmong, verdictInTurn}
 use Rattle.interface.proofs.RefusalLaws.{by-rule, refused-exactly, granted-exactly, passed-grants, no-other, decides-holding}
 
 -- a creation asks for its capabilities in one, then for the CPU, the parameters and room

@@ -38,7 +38,7 @@ pub mod DelegationLaws
 pub mod FilledLaws
 pub mod RevocationLaws
 pub mod TransferLaws
-pub mod CheckLaws
+pub mod ChecksInTurn
 pub mod RefusalLaws
 pub mod CreationRefusals
 pub mod OtherRefusals
@@ -47,4 +47,4 @@ pub mod MalformedLaws
 pub mod CreatedLaws
 pub mod DeliveryLaws
 pub mod ReceivedLaws
-pub mod InitialLaws
+pub mod InitialRangeLaws

@@ -31,7 +31,7 @@ use Rattle.interface.proofs.BoolLaws.{cases, either-way}
 use Rattle.interface.proofs.PutLaws.{put-same, put-other}
 use Rattle.interface.proofs.Soundness.{sound-facts}
 use Rattle.interface.proofs.VerdictLaws.{after-granted}
-use Rattle.interface.proofs.CheckLaws.{Decides, decides-at-most, decides-below, decides-some, decides-inside, decides-contrary, Refusal, success-no-refusal, Check, checked, inTurn, Cause, Passed, neither-reply, caused-exactly, each-passed, each-passes, status-among, verdictInTurn, last-stands}
+use Rattle.interface.proofs.ChecksInTurn.{Decides, decides-at-most, decides-below, decides-some, decides-inside, decides-contrary, Refusal, success-no-refusal, Check, checked, inTurn, Cause, Passed, neither-reply, caused-exactly, each-passed, each-passes, status-among, verdictInTurn, last-stands}
 use Rattle.interface.proofs.RefusalLaws.{by-rule, refused-exactly, granted-exactly, granted-somehow, no-other, decides-holding, passed-grants}
 
 -- SM_CTRL.

@@ -25,7 +25,7 @@ use Rattle.interface.specs.Refusals.{Holds, WholeBlocks, calleeOf, paylo
 use Rattle.interface.proofs.BoolLaws.{and-left, and-right, both}
 use Rattle.interface.proofs.Soundness.{Sound, sound-facts}
 use Rattle.interface.proofs.SoundFacts.{permits-live, permitted-kind, own-record}
-use Rattle.interface.proofs.CheckLaws.{Decides, decides-at-most, decides-equal, decides-other, decides-fact, Refusal, success-no-refusal, Check, inTurn, Cause, Passed, checked, caused-exactly, each-passed, each-passes, allAmong, status-among, verdictInTurn, reply-in-turn, last-stands}
+use Rattle.interface.proofs.ChecksInTurn.{Decides, decides-at-most, decides-equal, decides-other, decides-fact, Refusal, success-no-refusal, Check, inTurn, Cause, Passed, checked, caused-exactly, each-passed, each-passes, allAmong, status-among, verdictInTurn, reply-in-turn, last-stands}
 
 -- a call of a number by an EC on a sound state is judged by the number's rule
 pub by-rule : (s : State) (c : Call) (number : ℕ) (verdict : State → Call → Verdict) → hypercall number ≡ rule verdict → soundState s ≡ true → isEc s (c .caller) ≡ true →
