@@ -1,5 +1,4 @@
 -- What is proved of the definitions.
-pub mod Computed
 pub mod BoolLaws
 pub mod BelowLaws
 pub mod PutLaws
@@ -28,6 +27,8 @@ pub mod BootLaws
 pub mod GatherLaws
 pub mod LentOutLaws
 pub mod DemandLaws
+pub mod JournalLaws
+pub mod Computed
 pub mod ConsequenceLaws
 pub mod VerdictLaws
 pub mod LookupLaws

@@ -2,6 +2,7 @@
 // statement's.
 ghost use Rattle.interface.specs.Consequences.{StaysSound, DamagedExactly, RefusedStays, NothingIsNothing, GrantedWhereDue, AddsNoPermission, RevokesExactly};
 ghost use Rattle.interface.specs.Demand.{Demand3};
+ghost use Rattle.interface.specs.Journal.{PartsInTurn, PiecesInTurn};
 ghost use Rattle.interface.specs.Examples.{WorkedExamples, JournalExample};
 
 // Demand 3: after any events from boot, the census of a live place shows exactly its heirs, and revoking everything below it empties just those.
@@ -42,6 +43,16 @@ pub fn adds_no_permission()
 // Revocation is exact.
 pub fn revokes_exactly()
     ensures { λ r. ⌜ RevokesExactly ⌝ }
+{}
+
+// The lines of a journal are those of the whole records of a first part of it, and then those of the rest, from the tables and the index after those records.
+pub fn parts_in_turn()
+    ensures { λ r. ⌜ PartsInTurn ⌝ }
+{}
+
+// In whatever pieces a journal is read, its lines are the same.
+pub fn pieces_in_turn()
+    ensures { λ r. ⌜ PiecesInTurn ⌝ }
 {}
 
 // Every worked example follows from the definitions.
