@@ -171,7 +171,7 @@ calls-at-most =
     (λ bytes none. rw (none-read bytes none (length bytes)) (omega arith))
     (λ kind body later one fewer. rw (record-read kind body later one) (omega (arith, length-append body later)))
 
--- events, lines and texts of two lists in turn
+-- the tables, the lines and the texts of two lists in turn
 pub tables-append : (tables : Tables) (first second : List Call) →
     tablesAfterAll tables (map hypercalls (first ++ second)) ≡ tablesAfterAll (tablesAfterAll tables (map hypercalls first)) (map hypercalls second)
 unfolding tablesAfterAll
@@ -186,6 +186,12 @@ lines-append tables index [] second = rw (add-zero index)
 lines-append tables index (c ∷ first) second =
     let next : index + 1 + length first ≡ index + suc (length first) = omega arith in
     rw (lines-append (hypercallTables tables c) (index + 1) first second, next)
+
+-- each call has a line
+pub length-lines : (tables : Tables) (index : ℕ) (calls : List Call) → length (linesFrom tables index calls) ≡ length calls
+unfolding linesFrom
+length-lines tables index [] = refl
+length-lines tables index (c ∷ calls) = ap suc (length-lines (hypercallTables tables c) (index + 1) calls)
 
 pub spelled-append : (first second : List Line) → spelledLines (first ++ second) ≡ spelledLines first ++ spelledLines second
 unfolding spelledLines
