@@ -1,6 +1,6 @@
 -- The examples, by computation.
 use Prim.Native.Nat.{ℕ, _+_}
-use mathlib.Core.Path.{_≡_, refl, ap}
+use mathlib.Core.Path.{_≡_, refl, ap, _∙_}
 use mathlib.Core.Bool.{true}
 use mathlib.Core.List.{List, [], _∷_, _++_}
 use Rattle.words.specs.Sizes.{memory, object, placeOf, spaceOf}
@@ -17,20 +17,32 @@ use Rattle.interface.specs.Lookup.{uniform, largest, around, found, look
 use Rattle.interface.specs.Message.{payloadFits, sourceDomain, delegateItem, firstIn, nearest, common, translates, translateItem, itemOf, untypedCopied, carried}
 use Rattle.interface.specs.PortalCalls.{portalCall}
 use Rattle.interface.specs.Rules.{hypercall, called, rules, after}
-use Rattle.interface.specs.Journal.{bodyBytes, bodyWord, recordedCall, replayFrom, width, spelled, spelledLines}
-use Rattle.interface.specs.Examples.{Each, calledExamples, neighbour, messageCap, messageRecord, messageState, blockBefore, blockReceived, exampleMessage, WorkedExamples, MessageExample, JournalExample, exampleRange, RangeExample, LayoutExamples}
+use Rattle.interface.specs.Journal.{bodyBytes, bodyWord, recordedCall, Line, done, ended, beginning, readBy, contentsFrom, stopLines, replay, width, spelled, spelledLines}
+use Rattle.interface.specs.Examples.{Each, calledExamples, neighbour, messageCap, messageRecord, messageState, blockBefore, blockReceived, exampleMessage, WorkedExamples, MessageExample, exampleJournal, JournalExample, exampleRange, RangeExample, LayoutExamples}
 use Rattle.interface.proofs.VerdictLaws.{after-granted}
+use Rattle.interface.proofs.JournalLaws.{stateLines, stateReplay, replay-shown}
 
 called-examples : Each calledExamples
 unfolding spaceOf wellFormed wrapped reading put allBelow anyBelow countBelow all any bootRecord hypervisorCap rootCap bootCap fixed-record fixed-place interrupt-rule unnamed-rule used-first pdsBelow pd-rule hasPd isEc ec-rule sc-rule pt-rule null-place live-place shallow keeps soundState chain ancestors below stripped cutCaps act run revoke hypercall called rules after
 called-examples = (refl, (refl, (refl, (refl, (refl, (refl, (refl, (refl, (refl, (refl, (refl, tt)))))))))))
 
-pub computed : WorkedExamples × JournalExample
-unfolding spaceOf wellFormed wrapped reading put listed allBelow anyBelow countBelow lowest all any bootRecord hypervisorCap rootCap bootCap fixed-record fixed-place interrupt-rule unnamed-rule used-first pdsBelow pd-rule hasPd isEc ec-rule sc-rule pt-rule null-place live-place shallow keeps soundState chain ancestors below fills stripped cutCaps act run freeRecord creation createSm uniform largest around found lookup hypercall called rules after bodyBytes bodyWord recordedCall replayFrom width spelled spelledLines
+computed : WorkedExamples × (stateReplay exampleJournal ≡ done 0 6 0 0 ∷ done 1 8 0 163855 ∷ ended 2 ∷ [])
+unfolding spaceOf wellFormed wrapped reading put listed allBelow anyBelow countBelow lowest all any bootRecord hypervisorCap rootCap bootCap fixed-record fixed-place interrupt-rule unnamed-rule used-first pdsBelow pd-rule hasPd isEc ec-rule sc-rule pt-rule null-place live-place shallow keeps soundState chain ancestors below fills stripped cutCaps act run freeRecord creation createSm uniform largest around found lookup hypercall called rules after bodyBytes bodyWord recordedCall beginning readBy contentsFrom stopLines stateLines
 computed = (
   (refl, (refl, (refl, (refl, (refl, (refl, (refl, (refl, (refl, (refl, (refl, (refl, (refl, (refl, (refl, (refl, (refl, (refl, (called-examples, tt))))))))))))))))))),
-  (refl, (refl, tt)),
+  refl,
 )
+
+pub worked-examples : WorkedExamples
+worked-examples = computed .0
+
+pub journal-example : JournalExample
+unfolding width spelled spelledLines
+journal-example =
+    let lines : replay exampleJournal ≡ done 0 6 0 0 ∷ done 1 8 0 163855 ∷ ended 2 ∷ [] = replay-shown exampleJournal ∙ computed .1 in (
+      lines,
+      (ap spelledLines lines, tt),
+    )
 
 -- the message: its state is sound, its call comes to these steps, and those leave these places
 abbrev messageGives : List Effect

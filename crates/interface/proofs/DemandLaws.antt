@@ -30,7 +30,7 @@ unfolding after
 after-sound s c sound = run-sound (effectsOf (rules s c)) s sound (rules-fit s c)
 
 -- the history follows a call
-tell-follows : (h : History) (c : Call) → Valid h → Sound (told h) → Follows (tell h (hypercalls c)) (after (told h) c)
+pub tell-follows : (h : History) (c : Call) → Valid h → Sound (told h) → Follows (tell h (hypercalls c)) (after (told h) c)
 unfolding tell after
 tell-follows h c valid sound = notes-follow (effectsOf (rules (told h) c)) h valid sound (rules-fit (told h) c)
 

@@ -1,6 +1,4 @@
 -- What is proved of the definitions.
-pub mod Computed
-pub mod SmallCasesComputed
 pub mod BoolLaws
 pub mod BelowLaws
 pub mod PutLaws
@@ -31,6 +29,9 @@ pub mod BootLaws
 pub mod GatherLaws
 pub mod LentOutLaws
 pub mod DemandLaws
+pub mod JournalLaws
+pub mod Computed
+pub mod SmallCasesComputed
 pub mod ConsequenceLaws
 pub mod VerdictLaws
 pub mod LookupLaws

@@ -1,16 +1,19 @@
 -- The journal: records of hypercalls as bytes, and the lines that replaying them prints.
 use Prim.Native.Nat.{ℕ, zero, suc, _+_, _*_, _/_}
-use mathlib.Core.List.{List, [], _∷_, _++_}
+use mathlib.Core.Path.{_≡_}
+use mathlib.Core.List.{List, [], _∷_, _++_, map, flatten}
 use lib.Dec.{eqb, ltb}
 use lib.ListN.{length, take, drop}
 use Rattle.io.specs.Digits.{digits}
 use Rattle.words.specs.Sizes.{blockWords}
 use Rattle.descriptor.specs.Replies.{statusOf, answerOf}
 use Rattle.interface.specs.Basics.{if_then_else_, word, listed}
-use Rattle.interface.specs.Places.{State}
+use Rattle.interface.specs.Places.{Tables, tablesOf}
 use Rattle.interface.specs.Boot.{boot}
-use Rattle.interface.specs.Verdicts.{Call, CALL, CREATE-PD, CREATE-EC, CREATE-SC, CREATE-PT, CREATE-SM, REVOKE, LOOKUP, SM-CTRL, replyOf}
-use Rattle.interface.specs.Rules.{rules, after}
+use Rattle.interface.specs.Verdicts.{Call, CALL, CREATE-PD, CREATE-EC, CREATE-SC, CREATE-PT, CREATE-SM, REVOKE, LOOKUP, SM-CTRL}
+use Rattle.interface.specs.Rules.{hypercallReply, hypercallTables}
+use Rattle.interface.specs.History.{Event, hypercalls}
+use Rattle.interface.specs.Demand.{tablesAfterAll}
 
 -- how many bytes follow a kind byte, which is the hypercall's number: 0 for any other kind
 unfoldable pub bodyBytes : ℕ → ℕ
@@ -53,22 +56,93 @@ pub data Line : Type 0 where
   unknown : (kind : ℕ) → Line
   ended : (count : ℕ) → Line
 
--- the lines of a journal's bytes from some state and index on; each record takes a byte or more, so `most` is how many there may be
-unfoldable pub replayFrom : ℕ → State → ℕ → List ℕ → List Line
-replayFrom zero s index bytes = ended index ∷ []
-replayFrom (suc most) s index [] = ended index ∷ []
-replayFrom (suc most) s index (kind ∷ rest) =
-    let size = bodyBytes kind in
-    let c = recordedCall kind (take size rest) in
-    let reply = replyOf (rules s c) in
-    let later = replayFrom most (after s c) (index + 1) (drop size rest) in
-    if eqb size 0 then unknown kind ∷ ended index ∷ [] else
-    if ltb (length rest) size then short ∷ ended index ∷ [] else
-    done index kind (statusOf reply) (answerOf reply) ∷ later
+-- what some bytes begin with: nothing, a kind that is none, a record that is short, or a whole record with its kind, its body and the bytes after it
+pub data Beginning : Type 0 where
+  empty : Beginning
+  of-no-kind : (kind : ℕ) → Beginning
+  cut-off : Beginning
+  whole : (kind : ℕ) (body later : List ℕ) → Beginning
+
+unfoldable pub beginning : List ℕ → Beginning
+beginning [] = empty
+beginning (kind ∷ rest) =
+    if eqb (bodyBytes kind) 0 then of-no-kind kind else
+    if ltb (length rest) (bodyBytes kind) then cut-off else
+    whole kind (take (bodyBytes kind) rest) (drop (bodyBytes kind) rest)
+
+-- a journal as it is read: the hypercalls of its whole records in turn, up to the first that is short or of no kind, and the bytes from there on
+pub record Contents : Type 0 where
+  pub calls : List Call
+  pub left : List ℕ
+
+-- by what bytes begin with: a whole record's hypercall comes first, and the bytes after it are read on; bytes that begin with no whole record are left
+unfoldable pub readBy : (List ℕ → Contents) → List ℕ → Beginning → Contents
+readBy readOn bytes empty = record { calls = []; left = bytes }
+readBy readOn bytes (of-no-kind kind) = record { calls = []; left = bytes }
+readBy readOn bytes cut-off = record { calls = []; left = bytes }
+readBy readOn bytes (whole kind body later) = record { calls = recordedCall kind body ∷ readOn later .calls; left = readOn later .left }
+
+-- each record takes a byte or more, so `most` is how many there may be
+unfoldable pub contentsFrom : ℕ → List ℕ → Contents
+contentsFrom zero bytes = record { calls = []; left = bytes }
+contentsFrom (suc most) bytes = readBy (contentsFrom most) bytes (beginning bytes)
+
+abbrev pub contents : List ℕ → Contents
+contents journal = contentsFrom (length journal) journal
+
+-- the events of a journal
+abbrev pub recorded : List ℕ → List Event
+recorded journal = map hypercalls (contents journal .calls)
+
+-- the lines of hypercalls that are done in turn, each on the tables that the one before left, from an index on
+unfoldable pub linesFrom : Tables → ℕ → List Call → List Line
+linesFrom tables index [] = []
+linesFrom tables index (c ∷ calls) =
+    let reply = hypercallReply tables c in
+    done index (c .number) (statusOf reply) (answerOf reply) ∷ linesFrom (hypercallTables tables c) (index + 1) calls
+
+-- the line of what stops the reading: none at the end of the bytes
+unfoldable pub stopLines : Beginning → List Line
+stopLines empty = []
+stopLines (of-no-kind kind) = unknown kind ∷ []
+stopLines cut-off = short ∷ []
+stopLines (whole kind body later) = []
+
+-- the last lines: that of what stops the reading, and the number of records done
+abbrev pub lastLines : Beginning → ℕ → List Line
+lastLines stop count = stopLines stop ++ (ended count ∷ [])
+
+-- the lines of a journal's bytes from some tables and index on
+unfoldable pub replayFrom : Tables → ℕ → List ℕ → List Line
+replayFrom tables index bytes =
+    let read = contents bytes in
+    linesFrom tables index (read .calls) ++ lastLines (beginning (read .left)) (index + length (read .calls))
 
 -- the lines of a journal, from boot on
 abbrev pub replay : List ℕ → List Line
-replay journal = replayFrom (length journal) boot 0 journal
+replay journal = replayFrom (tablesOf boot) 0 journal
+
+-- a journal that is read in pieces: each is read with the bytes that the ones before left, from the tables and the index that they came to
+unfoldable pub replayPieces : Tables → ℕ → List ℕ → List (List ℕ) → List Line
+replayPieces tables index left [] = lastLines (beginning left) index
+replayPieces tables index left (piece ∷ pieces) =
+    let bytes = left ++ piece in
+    let read = contents bytes in
+    linesFrom tables index (read .calls) ++
+    replayPieces (tablesAfterAll tables (recorded bytes)) (index + length (read .calls)) (read .left) pieces
+
+-- the lines of a journal are those of the whole records of a first part of it, and then those of what this part leaves and the rest of the journal, from the tables and the
+-- index after those records
+abbrev pub PartsInTurn : Type 0
+PartsInTurn =
+    (tables : Tables) (index : ℕ) (first rest : List ℕ) →
+    replayFrom tables index (first ++ rest) ≡
+    linesFrom tables index (contents first .calls) ++
+    replayFrom (tablesAfterAll tables (recorded first)) (index + length (contents first .calls)) (contents first .left ++ rest)
+
+-- in whatever pieces a journal is read, its lines are the same
+abbrev pub PiecesInTurn : Type 0
+PiecesInTurn = (pieces : List (List ℕ)) → replayPieces (tablesOf boot) 0 [] pieces ≡ replay (flatten pieces)
 
 -- how many decimal digits a number has, of at most `most`
 unfoldable pub width : ℕ → ℕ → ℕ

@@ -9,6 +9,7 @@ ghost use Rattle.interface.specs.DamageReport.{DamageNamed};
 ghost use Rattle.interface.specs.Demand.{LastRevokeExists, Demand3};
 ghost use Rattle.interface.specs.Examples.{WorkedExamples, MessageExample, JournalExample, RangeExample, LayoutExamples};
 ghost use Rattle.interface.specs.SmallCases.{SmallCases};
+ghost use Rattle.interface.specs.Journal.{PartsInTurn, PiecesInTurn};
 
 // Demand 3: after any events from boot, the census of a live place shows exactly its heirs, and revoking everything below it empties just those.
 pub fn demand_3()
@@ -118,6 +119,16 @@ pub fn dispatch_refused_exactly()
 // A word is read as malformed exactly for its type, order and base.
 pub fn malformed_exactly()
     ensures { λ r. ⌜ MalformedExactly ⌝ }
+{}
+
+// The lines of a journal are those of the whole records of a first part of it, and then those of the rest, from the tables and the index after those records.
+pub fn parts_in_turn()
+    ensures { λ r. ⌜ PartsInTurn ⌝ }
+{}
+
+// In whatever pieces a journal is read, its lines are the same.
+pub fn pieces_in_turn()
+    ensures { λ r. ⌜ PiecesInTurn ⌝ }
 {}
 
 // Every worked example follows from the definitions.

@@ -1,3 +1,5 @@
 -- The laws that the functions' proofs cite.
-pub mod SequenceLaws
+pub mod FoundLaws
 pub mod PlayLaws
+pub mod LineLaws
+pub mod PlayingLaws

@@ -1,2 +1,2 @@
 -- What the contracts of playing a journal cite.
-pub mod Sequences
+pub mod Playing

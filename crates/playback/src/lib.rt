@@ -1,15 +1,18 @@
-// A journal on the kernel: its records found in a slice of bytes, played one by one, and run as a whole from boot on.
-ghost use Prim.Native.Nat.{_≤_};
+// A journal on the kernel: its records found in a slice of bytes, played one by one with their lines, and replayed as a whole from boot on.
+ghost use Prim.Native.Nat.{ℕ, _+_, _*_, _^_, _≤_, _<_};
 ghost use mathlib.Core.Path.{_≡_};
-ghost use mathlib.Core.Bool.{true};
-ghost use lib.ListN.{drop};
-ghost use Rattle.interface.specs.Places.{sized, tables};
-ghost use Rattle.interface.specs.Journal.{recordedCall};
-ghost use Rattle.interface.specs.History.{bootHistory, toldAll};
-ghost use Rattle.interface.specs.Demand.{LentOut};
+ghost use mathlib.Core.List.{List, [], _∷_};
+ghost use lib.ListN.{length, take, drop};
+ghost use Rattle.interface.specs.Places.{tables};
 ghost use Rattle.interface.specs.Outcomes.{Answered, answered};
-ghost use Rattle.playback.specs.Sequences.{foundIn, recorded, Sequence, sequence};
+ghost use Rattle.interface.specs.History.{hypercalls};
+ghost use Rattle.interface.specs.Demand.{tablesAfterAll};
+ghost use Rattle.interface.specs.Journal.{recordedCall, spelled, spelledLines, beginning, linesFrom, stopLines, lastLines};
+ghost use Rattle.journal.specs.Texts.{lineOf, lineBytes, Wrote};
+ghost use Rattle.playback.specs.Playing.{foundIn, Plays, Stops, ReplayedAs};
 use descriptor::Reply;
+use journal::lines;
+use journal::lines::Line;
 use journal::records;
 use words::sizes;
 
@@ -21,9 +24,21 @@ pub enum Found {
     Whole(u8, usize),
 }
 
-// What running a journal comes to: how many records it had, or that the tables lent have other lengths.
-pub enum Ran {
-    Records(u64),
+// How far some bytes were played.
+pub struct Played {
+    // The bytes of the records that were done, and what begins after them.
+    pub at: usize,
+    pub next: Found,
+    // The index of the next record.
+    pub index: u64,
+    // Where the lines in the buffer end.
+    pub written: usize,
+}
+
+// What replaying a journal comes to: all its records and the bytes of its lines; those for which the buffer had room; or that the tables lent have other lengths.
+pub enum Replayed {
+    Complete(u64, usize),
+    TooShort(u64, usize),
     OtherLengths,
 }
 
@@ -92,25 +107,128 @@ pub fn play(kind: u8, body: &[u8], places: &mut [u32], objects: &mut [u32]) -> R
     )
 }
 
-// Runs a whole journal from boot on: its whole records in turn, up to the first that is short or of no kind.
-pub fn run(journal: &[u8], places: &mut [u32], objects: &mut [u32]) -> Ran
-    ensures { λ r. ⌜ record { ran = r; tables = tables (now (places .exit)) (now (objects .exit)) } ≡ sequence (tables (now (places .entry)) (now (objects .entry))) (now (journal .entry)) ⌝ }
-    ensures { λ r. ⌜ (sized (tables (now (places .entry)) (now (objects .entry))) ≡ true → LentOut (tables (now (places .exit)) (now (objects .exit))) (toldAll bootHistory (recorded (now (journal .entry))))) ⌝ }
+// Writes a line into a buffer at a place. Answers where it ends.
+fn add_line(line: Line, out: &mut [u8], at: usize) -> usize
+    requires { ⌜ at + lineBytes ≤ length (now out) ⌝ }
+    ensures { λ r. ⌜ Wrote (now (out .entry)) at (spelled (lineOf line)) (now (out .exit)) r ⌝ }
+    ensures { λ r. ⌜ r ≤ at + lineBytes ⌝ }
 {
-    if kernel::boot(places, objects).status() != 0 {
-        return Ran::OtherLengths;
-    }
+    let end = at + lines::LINE_BYTES;
+    at + lines::spell(line, &mut out[at..end])
+}
+
+// Plays a record, and writes its line into a buffer at a place. Answers where the line ends.
+fn play_record(
+    index: u64,
+    kind: u8,
+    body: &[u8],
+    places: &mut [u32],
+    objects: &mut [u32],
+    out: &mut [u8],
+    at: usize,
+) -> usize
+    requires { ⌜ at + lineBytes ≤ length (now out) ⌝ }
+    ensures { λ r. ⌜ tables (now (places .exit)) (now (objects .exit)) ≡ tablesAfterAll (tables (now (places .entry)) (now (objects .entry))) (hypercalls (recordedCall kind (now (body .entry))) ∷ []) ⌝ }
+    ensures { λ r. ⌜ Wrote (now (out .entry)) at (spelledLines (linesFrom (tables (now (places .entry)) (now (objects .entry))) index (recordedCall kind (now (body .entry)) ∷ []))) (now (out .exit)) r ⌝ }
+{
+    let reply = play(kind, body, places, objects);
+    let status = reply.status();
+    let answer = reply.answer();
+    let line = Line::Done {
+        index,
+        kind,
+        status,
+        answer,
+    };
+    add_line(line, out, at)
+}
+
+// Plays the whole records at the front of some bytes, from an index on, and writes their lines into a buffer from a place on, as long as it has room for the longest line.
+pub fn play_records(
+    input: &[u8],
+    mut index: u64,
+    places: &mut [u32],
+    objects: &mut [u32],
+    out: &mut [u8],
+    mut written: usize,
+) -> Played
+    requires { ⌜ (written ≤ length (now out)) × (index + length (now input) < 2 ^ 64) ⌝ }
+    ensures { λ r. ⌜ Plays (take (r .at) (now (input .entry))) (tables (now (places .entry)) (now (objects .entry))) index (now (out .entry)) written (tables (now (places .exit)) (now (objects .exit))) (r .index) (now (out .exit)) (r .written) ⌝ }
+    ensures { λ r. ⌜ Stops (now (input .entry)) (now (out .exit)) r ⌝ }
+{
     let mut at: usize = 0;
-    let mut count: u64 = 0;
-    while at < journal.len() {
-        let Found::Whole(kind, size) = record_at(journal, at) else {
-            return Ran::Records(count);
+    loop {
+        let next = record_at(input, at);
+        let Found::Whole(kind, size) = next else {
+            return Played {
+                at,
+                next,
+                index,
+                written,
+            };
         };
+        if out.len() - written < lines::LINE_BYTES {
+            return Played {
+                at,
+                next,
+                index,
+                written,
+            };
+        }
         let start = at + 1;
         let end = start + size;
-        play(kind, &journal[start..end], places, objects);
+        written = play_record(
+            index,
+            kind,
+            &input[start..end],
+            places,
+            objects,
+            out,
+            written,
+        );
         at = end;
-        count += 1;
+        index += 1;
     }
-    Ran::Records(count)
+}
+
+// Writes the line of what stops the reading into a buffer at a place: none at the end of the bytes. Answers where it ends.
+fn add_stop_line(next: Found, out: &mut [u8], at: usize) -> usize
+    requires { ⌜ at + lineBytes ≤ length (now out) ⌝ }
+    ensures { λ r. ⌜ ((left : List ℕ) → next ≡ foundIn left → Wrote (now (out .entry)) at (spelledLines (stopLines (beginning left))) (now (out .exit)) r) ⌝ }
+    ensures { λ r. ⌜ r ≤ at + lineBytes ⌝ }
+{
+    match next {
+        Found::Short => add_line(Line::Cut, out, at),
+        Found::Unknown(kind) => add_line(Line::Bad(kind), out, at),
+        Found::Nothing => at,
+        Found::Whole(_, _) => at,
+    }
+}
+
+// Writes the last lines into a buffer at a place: that of what stops the reading, and the number of records done. Answers where they end.
+pub fn add_last_lines(next: Found, records: u64, out: &mut [u8], at: usize) -> usize
+    requires { ⌜ at + 2 * lineBytes ≤ length (now out) ⌝ }
+    ensures { λ r. ⌜ ((left : List ℕ) → next ≡ foundIn left → Wrote (now (out .entry)) at (spelledLines (lastLines (beginning left) records)) (now (out .exit)) r) ⌝ }
+    ensures { λ r. ⌜ r ≤ length (now (out .exit)) ⌝ }
+{
+    let end = add_stop_line(next, out, at);
+    add_line(Line::End(records), out, end)
+}
+
+// Replays a whole journal from boot on: plays its whole records in turn, up to the first that is short or of no kind, and writes its lines at the front of a buffer.
+pub fn replay(journal: &[u8], places: &mut [u32], objects: &mut [u32], text: &mut [u8]) -> Replayed
+    ensures { λ r. ⌜ ReplayedAs (tables (now (places .entry)) (now (objects .entry))) (now (journal .entry)) (now (text .entry)) r (tables (now (places .exit)) (now (objects .exit))) (now (text .exit)) ⌝ }
+{
+    if kernel::boot(places, objects).status() != 0 {
+        return Replayed::OtherLengths;
+    }
+    let played = play_records(journal, 0, places, objects, text, 0);
+    let next = played.next;
+    let records = played.index;
+    let written = played.written;
+    if text.len() - written < 2 * lines::LINE_BYTES {
+        return Replayed::TooShort(records, written);
+    }
+    let bytes = add_last_lines(next, records, text, written);
+    Replayed::Complete(records, bytes)
 }

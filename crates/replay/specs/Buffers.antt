@@ -1,28 +1,47 @@
 -- The buffers of the replay program.
-use Prim.Native.Nat.{ℕ, _-_, _≤_}
+use Prim.Native.Nat.{ℕ, _*_, _≤_}
+use mathlib.Core.Path.{_≡_}
+use mathlib.Core.Bool.{Bool, true, false}
 use mathlib.Core.List.{List, _++_}
-use lib.Dec.{ltb}
 use lib.ListN.{length, take, drop}
 use Rattle.interface.specs.Basics.{if_then_else_}
-use Rattle.journal.specs.declared.lines.Line.{Line}
-use Rattle.journal.specs.Texts.{lineBytes, fitting, Wrote}
+use Rattle.interface.specs.Places.{Tables}
+use Rattle.journal.specs.Texts.{lineBytes}
+use Rattle.playback.specs.declared.Found.{Found}
+use Rattle.playback.specs.declared.Found.the-variants.{Nothing, Unknown, Short, Whole}
+use Rattle.playback.specs.Playing.{foundIn, isWhole, Plays}
 use Rattle.replay.specs.declared.Progress.{Progress}
+
+-- so many bytes of lines wait in the output buffer, which is as long as two of the longest lines
+pub record Waits (out : List ℕ) (waiting : ℕ) : Type 0 where
+  pub lines : waiting ≤ length out
+  pub long : 2 * lineBytes ≤ length out
 
 -- a progress whose positions lie in the input buffer and in the output buffer
 pub record Inside (progress : Progress) (input out : List ℕ) : Type 0 where
   pub next : progress .at ≤ progress .filled
   pub read : progress .filled ≤ length input
   pub lines : progress .waiting ≤ length out
+  pub long : 2 * lineBytes ≤ length out
+
+-- whether nothing after what begins at a position counts: a record of no kind ends the journal, and a short one or none where there are no more bytes
+abbrev pub isEnd : Found → Bool → Bool
+isEnd Nothing last = last
+isEnd (Unknown kind) last = true
+isEnd Short last = last
+isEnd (Whole kind size) last = false
 
 -- a buffer in which the bytes from a position on, so many, are copied to the front
 abbrev pub fronted : List ℕ → ℕ → ℕ → List ℕ
 fronted buffer from size = take size (drop from buffer) ++ drop size buffer
 
--- where the next line goes in a buffer in which so many bytes of lines wait: after these, or at the front where the longest line does not fit there
-unfoldable pub lineStart : List ℕ → ℕ → ℕ
-lineStart out waiting = if ltb (length out - waiting) lineBytes then 0 else waiting
+-- where the next line goes: at the front where the lines that wait had to be written first, for want of room, and else after these
+unfoldable pub lineStart : Progress → ℕ
+lineStart progress = if isWhole (progress .next) then 0 else progress .waiting
 
--- a line added to those that wait: the buffer that this leaves, and how many bytes wait then
-abbrev pub Added : List ℕ → ℕ → Line → List ℕ → ℕ → Type 0
-Added before waiting line after end =
-    Wrote before (lineStart before waiting) (fitting (drop (lineStart before waiting) before) line) after end
+-- the bytes that were read, replayed from some tables and a count on, with their lines added at a place of the output buffer: whole records are played up to where the next begins,
+-- and the progress says what begins there
+pub record Turn (input : List ℕ) (before : Tables) (count : ℕ) (out : List ℕ) (start : ℕ) (after : Tables) (outAfter : List ℕ) (progress : Progress) : Type 0 where
+  pub all-read : progress .filled ≡ length input
+  pub plays : Plays (take (progress .at) input) before count out start after (progress .done) outAfter (progress .waiting)
+  pub stands : progress .next ≡ foundIn (drop (progress .at) input)

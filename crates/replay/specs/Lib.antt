@@ -1,3 +1,2 @@
 -- What the contracts of the replay program cite.
 pub mod Buffers
-pub mod Records

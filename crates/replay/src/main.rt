@@ -1,14 +1,12 @@
 // Replays journals on the kernel, each from boot on, and writes their lines: those that the arguments name, one after the other, or the one on standard input.
-ghost use Prim.Native.Nat.{_-_, _≤_};
+ghost use Prim.Native.Nat.{_+_, _-_, _*_, _≤_};
 ghost use mathlib.Core.Path.{_≡_};
-ghost use lib.ListN.{length};
+ghost use lib.ListN.{length, take};
 ghost use Rattle.interface.specs.Places.{tables};
-ghost use Rattle.interface.specs.Rules.{hypercallReply, hypercallTables};
-ghost use Rattle.interface.specs.Journal.{recordedCall};
-ghost use Rattle.replay.specs.Buffers.{Inside, fronted, lineStart, Added};
-ghost use Rattle.replay.specs.Records.{lineDone, isUnknown, Replayed, Stopped};
+ghost use Rattle.journal.specs.Texts.{lineBytes};
+ghost use Rattle.playback.specs.Playing.{isWhole};
+ghost use Rattle.replay.specs.Buffers.{Waits, Inside, isEnd, fronted, lineStart, Turn};
 use journal::lines;
-use journal::lines::Line;
 use libc::STDIN_FILENO;
 use libc::STDOUT_FILENO;
 use playback::Found;
@@ -18,12 +16,14 @@ struct Progress {
     // The bytes at the front of the input buffer that were read, and where among them the next record begins.
     filled: usize,
     at: usize,
-    // What begins there.
+    // What begins there: a whole record only where the output buffer has no room for its line.
     next: Found,
     // The records done.
     done: u64,
     // The bytes of lines at the front of the output buffer.
     waiting: usize,
+    // Whether no more bytes of the journal are there to be read.
+    is_last: bool,
     // Whether nothing more of the journal counts.
     is_over: bool,
 }
@@ -37,25 +37,16 @@ fn flush(out: &[u8], waiting: usize)
     }
 }
 
-// Where the next line goes: after the lines that wait or, if the longest line does not fit there, at the front, once these are written.
-fn line_start(out: &[u8], waiting: usize) -> usize
-    requires { ⌜ waiting ≤ length (now out) ⌝ }
-    ensures { λ r. ⌜ r ≡ lineStart (now (out .entry)) waiting ⌝ }
+// Where the last lines go: after the lines that wait or, if two of the longest lines do not fit there, at the front, once these are written.
+fn last_start(out: &[u8], waiting: usize) -> usize
+    requires { ⌜ Waits (now out) waiting ⌝ }
+    ensures { λ r. ⌜ r + 2 * lineBytes ≤ length (now (out .entry)) ⌝ }
 {
-    if out.len() - waiting < lines::LINE_BYTES {
+    if out.len() - waiting < 2 * lines::LINE_BYTES {
         flush(out, waiting);
         return 0;
     }
     waiting
-}
-
-// Adds a line to those that wait. Answers how many bytes wait then.
-fn add_line(line: Line, out: &mut [u8], waiting: usize) -> usize
-    requires { ⌜ waiting ≤ length (now out) ⌝ }
-    ensures { λ r. ⌜ Added (now (out .entry)) waiting line (now (out .exit)) r ⌝ }
-{
-    let start = line_start(out, waiting);
-    start + lines::spell(line, &mut out[start..])
 }
 
 // Moves a part of a buffer to its front. Answers how many bytes that is.
@@ -86,86 +77,69 @@ fn read_more(descriptor: i32, name: &[u8], buffer: &mut [u8], kept: usize) -> us
     kept + io::count(got, &buffer[kept..])
 }
 
-// Plays a record, and adds its line. Answers how many bytes wait then.
-fn replay_record(
-    index: u64,
-    kind: u8,
-    body: &[u8],
-    places: &mut [u32],
-    objects: &mut [u32],
-    out: &mut [u8],
-    waiting: usize,
-) -> usize
-    requires { ⌜ waiting ≤ length (now out) ⌝ }
-    ensures { λ r. ⌜ tables (now (places .exit)) (now (objects .exit)) ≡ hypercallTables (tables (now (places .entry)) (now (objects .entry))) (recordedCall kind (now (body .entry))) ⌝ }
-    ensures { λ r. ⌜ Added (now (out .entry)) waiting (lineDone index kind (hypercallReply (tables (now (places .entry)) (now (objects .entry))) (recordedCall kind (now (body .entry))))) (now (out .exit)) r ⌝ }
-{
-    let reply = playback::play(kind, body, places, objects);
-    let line = Line::Done {
-        index,
-        kind,
-        status: reply.status(),
-        answer: reply.answer(),
-    };
-    add_line(line, out, waiting)
-}
-
-// Whether what begins at a position is of no kind.
-fn is_unknown(next: Found) -> bool
-    ensures { λ r. ⌜ r ≡ isUnknown next ⌝ }
+// Whether what begins at a position is a whole record.
+fn is_whole(next: Found) -> bool
+    ensures { λ r. ⌜ r ≡ isWhole next ⌝ }
 {
     match next {
-        Found::Unknown(_) => true,
+        Found::Whole(_, _) => true,
         Found::Nothing => false,
+        Found::Unknown(_) => false,
         Found::Short => false,
-        Found::Whole(_, _) => false,
     }
 }
 
-// Plays the whole records at the front of some bytes, and adds their lines. No run reaches the count at which an index would wrap.
-fn replay_records(
+// Whether nothing after what begins at a position counts: a record of no kind ends the journal, and a short one or none where there are no more bytes.
+fn is_end(next: Found, last: bool) -> bool
+    ensures { λ r. ⌜ r ≡ isEnd next last ⌝ }
+{
+    match next {
+        Found::Unknown(_) => true,
+        Found::Whole(_, _) => false,
+        Found::Nothing => last,
+        Found::Short => last,
+    }
+}
+
+// Plays the whole records at the front of the bytes that were read, and adds their lines. A count past 64 bits, which no run reaches, ends the journal.
+fn replay_read(
     input: &[u8],
     is_last: bool,
-    mut done: u64,
-    mut waiting: usize,
+    done: u64,
+    waiting: usize,
     places: &mut [u32],
     objects: &mut [u32],
     out: &mut [u8],
 ) -> Progress
-    requires { ⌜ waiting ≤ length (now out) ⌝ }
+    requires { ⌜ Waits (now out) waiting ⌝ }
     ensures { λ r. ⌜ Inside r (now (input .entry)) (now (out .exit)) ⌝ }
-    ensures { λ r. ⌜ Replayed (tables (now (places .entry)) (now (objects .entry))) done (now (input .entry)) (tables (now (places .exit)) (now (objects .exit))) r ⌝ }
+    ensures { λ r. ⌜ Turn (now (input .entry)) (tables (now (places .entry)) (now (objects .entry))) done (now (out .entry)) waiting (tables (now (places .exit)) (now (objects .exit))) (now (out .exit)) r ⌝ }
 {
-    let mut at: usize = 0;
-    loop {
-        let next = playback::record_at(input, at);
-        let Found::Whole(kind, size) = next else {
-            return Progress {
-                filled: input.len(),
-                at,
-                next,
-                done,
-                waiting,
-                is_over: is_last | is_unknown(next),
-            };
-        };
-        let start = at + 1;
-        let end = start + size;
-        waiting = replay_record(
+    if u64::MAX - done < input.len() as u64 {
+        return Progress {
+            filled: input.len(),
+            at: 0,
+            next: playback::record_at(input, 0),
             done,
-            kind,
-            &input[start..end],
-            places,
-            objects,
-            out,
             waiting,
-        );
-        at = end;
-        done = std::num::wrapping_add_u64(done, 1);
+            is_last,
+            is_over: true,
+        };
+    }
+    let played = playback::play_records(input, done, places, objects, out, waiting);
+    let next = played.next;
+    Progress {
+        filled: input.len(),
+        at: played.at,
+        next,
+        done: played.index,
+        waiting: played.written,
+        is_last,
+        is_over: is_end(next, is_last),
     }
 }
 
-// Reads more of a journal, and plays the whole records that are there then.
+// Plays on: writes the lines that wait where there was no room for one more, and otherwise reads more of the journal.
 fn replay_more(
     descriptor: i32,
     name: &[u8],
@@ -177,10 +151,24 @@ fn replay_more(
 ) -> Progress
     requires { ⌜ Inside progress (now input) (now out) ⌝ }
     ensures { λ r. ⌜ Inside r (now (input .exit)) (now (out .exit)) ⌝ }
+    ensures { λ r. ⌜ Turn (take (r .filled) (now (input .exit))) (tables (now (places .entry)) (now (objects .entry))) (progress .done) (now (out .entry)) (lineStart progress) (tables (now (places .exit)) (now (objects .exit))) (now (out .exit)) r ⌝ }
 {
     let kept = move_to_front(input, progress.at, progress.filled);
+    let next = progress.next;
+    if is_whole(next) {
+        flush(out, progress.waiting);
+        return replay_read(
+            &input[..kept],
+            progress.is_last,
+            progress.done,
+            0,
+            places,
+            objects,
+            out,
+        );
+    }
     let filled = read_more(descriptor, name, input, kept);
-    replay_records(
+    replay_read(
         &input[..filled],
         filled == kept,
         progress.done,
@@ -201,7 +189,7 @@ fn replay_all(
     input: &mut [u8],
     out: &mut [u8],
 ) -> Progress
-    requires { ⌜ waiting ≤ length (now out) ⌝ }
+    requires { ⌜ Waits (now out) waiting ⌝ }
     ensures { λ r. ⌜ Inside r (now (input .exit)) (now (out .exit)) ⌝ }
 {
     let mut progress = Progress {
@@ -210,6 +198,7 @@ fn replay_all(
         next: Found::Nothing,
         done: 0,
         waiting,
+        is_last: false,
         is_over: false,
     };
     let mut turns = u64::MAX;
@@ -220,20 +209,6 @@ fn replay_all(
     progress
 }
 
-// Adds the line of what stopped a replay, where that is a record that is short or of no kind. Answers how many bytes wait then.
-fn add_stop(next: Found, out: &mut [u8], waiting: usize) -> usize
-    requires { ⌜ waiting ≤ length (now out) ⌝ }
-    ensures { λ r. ⌜ r ≤ length (now (out .exit)) ⌝ }
-    ensures { λ r. ⌜ Stopped next (now (out .entry)) waiting (now (out .exit)) r ⌝ }
-{
-    match next {
-        Found::Short => add_line(Line::Cut, out, waiting),
-        Found::Unknown(kind) => add_line(Line::Bad(kind), out, waiting),
-        Found::Nothing => waiting,
-        Found::Whole(_, _) => waiting,
-    }
-}
-
 // Replays a journal, on tables of zero words that are filled as at boot, and adds its last lines. Answers how many bytes wait then.
 fn replay_journal(
     descriptor: i32,
@@ -242,8 +217,8 @@ fn replay_journal(
     out: &mut [u8],
     waiting: usize,
 ) -> usize
-    requires { ⌜ waiting ≤ length (now out) ⌝ }
-    ensures { λ r. ⌜ r ≤ length (now (out .exit)) ⌝ }
+    requires { ⌜ Waits (now out) waiting ⌝ }
+    ensures { λ r. ⌜ Waits (now (out .exit)) r ⌝ }
 {
     let mut places = [0u32; 6144];
     let mut objects = [0u32; 320];
@@ -258,22 +233,22 @@ fn replay_journal(
         out,
     );
     let next = progress.next;
-    let stopped = add_stop(next, out, progress.waiting);
-    add_line(Line::End(progress.done), out, stopped)
+    let start = last_start(out, progress.waiting);
+    playback::add_last_lines(next, progress.done, out, start)
 }
 
 // Replays the journal on standard input. Answers how many bytes wait then.
 fn replay_standard_input(input: &mut [u8], out: &mut [u8], waiting: usize) -> usize
-    requires { ⌜ waiting ≤ length (now out) ⌝ }
-    ensures { λ r. ⌜ r ≤ length (now (out .exit)) ⌝ }
+    requires { ⌜ Waits (now out) waiting ⌝ }
+    ensures { λ r. ⌜ Waits (now (out .exit)) r ⌝ }
 {
     replay_journal(STDIN_FILENO, b"standard input", input, out, waiting)
 }
 
 // Replays the journal in a file; one that cannot be opened is named on standard error. Answers how many bytes wait then.
 fn replay_file(name: &[u8], input: &mut [u8], out: &mut [u8], waiting: usize) -> usize
-    requires { ⌜ waiting ≤ length (now out) ⌝ }
-    ensures { λ r. ⌜ r ≤ length (now (out .exit)) ⌝ }
+    requires { ⌜ Waits (now out) waiting ⌝ }
+    ensures { λ r. ⌜ Waits (now (out .exit)) r ⌝ }
 {
     let descriptor = os::open_read(name);
     if descriptor < 0 {
@@ -295,8 +270,8 @@ fn is_dash(name: &[u8]) -> bool {
 
 // Replays the journal that an argument names. Answers how many bytes wait then.
 fn replay_argument(index: usize, input: &mut [u8], out: &mut [u8], waiting: usize) -> usize
-    requires { ⌜ waiting ≤ length (now out) ⌝ }
-    ensures { λ r. ⌜ r ≤ length (now (out .exit)) ⌝ }
+    requires { ⌜ Waits (now out) waiting ⌝ }
+    ensures { λ r. ⌜ Waits (now (out .exit)) r ⌝ }
 {
     let mut path = io::buffer();
     let length = os::arg(index, &mut path);
@@ -312,7 +287,8 @@ fn replay_argument(index: usize, input: &mut [u8], out: &mut [u8], waiting: usiz
 
 // Replays what the arguments name, the program's own name apart, or standard input where there is none. Answers how many bytes wait then.
 fn replay_arguments(input: &mut [u8], out: &mut [u8]) -> usize
-    ensures { λ r. ⌜ r ≤ length (now (out .exit)) ⌝ }
+    requires { ⌜ 2 * lineBytes ≤ length (now out) ⌝ }
+    ensures { λ r. ⌜ Waits (now (out .exit)) r ⌝ }
 {
     let count = os::arg_count();
     if count < 2 {

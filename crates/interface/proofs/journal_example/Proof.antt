@@ -1,9 +1,9 @@
-use Rattle.interface.proofs.Computed.{computed}
+use Rattle.interface.proofs.Computed.{journal-example}
 use Rattle.interface.proofs.journal_example.Statement.{statement}
 use Rattle.interface.proofs.journal_example.Tie as tie
 
 returns : tie.Need-returns
-returns c = computed .1
+returns c = journal-example
 
 pub journal-example-spec : {M : Type 1} → statement M
 journal-example-spec = tie.close (tie.spec returns)

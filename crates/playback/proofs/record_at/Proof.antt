@@ -3,7 +3,7 @@ use mathlib.Core.Path.{refl}
 use native.Mathlib.Omega.{arith}
 use denote.Ref.{now}
 use borrow.Author.Needs.{needs}
-use Rattle.playback.proofs.SequenceLaws.{found-nothing, found-unknown, found-short, found-whole}
+use Rattle.playback.proofs.FoundLaws.{found-nothing, found-unknown, found-short, found-whole}
 use Rattle.playback.proofs.record_at.Statement.{statement}
 use Rattle.playback.proofs.record_at.Tie as tie
 

@@ -3,11 +3,12 @@ use Prim.Native.Nat.{_≤_, _-_}
 use mathlib.Core.Path.{_≡_}
 use borrow.Author.Needs.{needs}
 use lib.ListN.{length}
+use Rattle.replay.specs.Buffers.{Waits}
 use Rattle.replay.proofs.replay_arguments.Statement.{statement}
 use Rattle.replay.proofs.replay_arguments.Tie as tie
 
 abbrev Inv-loop : tie.InvT-loop
-Inv-loop input₀ out₀ count waiting₀ index₀ input out waiting index = (index ≤ count) × (waiting ≤ length out) × (length input ≡ length input₀) × (length out ≡ length out₀)
+Inv-loop input₀ out₀ count waiting₀ index₀ input out waiting index = (index ≤ count) × Waits out waiting × (length input ≡ length input₀) × (length out ≡ length out₀)
 
 abbrev μ-loop : tie.MeasureT-loop
 μ-loop input₀ out₀ count waiting₀ index₀ input out waiting index = count - index

@@ -1,7 +1,10 @@
--- What was read lies in the input buffer, and so does what is left of it.
-use mathlib.Core.Path.{sym}
+-- What was read lies in the input buffer, and so do the records that were played.
+use Prim.Native.Nat.{_≤_}
+use mathlib.Core.Path.{_≡_, sym}
+use lib.ListN.{length}
 use lib.Seq.{length-take-le}
-use Rattle.replay.proofs.BufferLaws.{inside-whole}
+use Rattle.replay.specs.Buffers.{lineStart}
+use Rattle.replay.proofs.BufferLaws.{inside-whole, turn-whole, line-start-front, line-start-after}
 use borrow.Author.Needs.{needs}
 use Rattle.replay.proofs.replay_more.Statement.{statement}
 use Rattle.replay.proofs.replay_more.Tie as tie
@@ -9,17 +12,24 @@ use Rattle.replay.proofs.replay_more.Tie as tie
 move-to-front-requires : tie.Need-move-to-front-requires
 move-to-front-requires c κs = search needs
 
-read-more-requires : tie.Need-read-more-requires
-read-more-requires c κs = search needs
+is-whole-requires : tie.Need-is-whole-requires
+is-whole-requires c κs = search needs
 
-slice-reshare-prefix-replay-records : tie.Need-slice-reshare-prefix-replay-records
-slice-reshare-prefix-replay-records c = search needs
+flush-requires : tie.Need-flush-requires
+flush-requires c κs = search needs
 
-slice-aggregate-replay-records : tie.Need-slice-aggregate-replay-records
-slice-aggregate-replay-records c = let read = c .before .before .before .read-more in sym (length-take-le (read .result) (read .last .1 .1 .0) (search needs))
+slice-reshare-prefix-replay-read : tie.Need-slice-reshare-prefix-replay-read
+slice-reshare-prefix-replay-read c = search needs
 
-replay-records-requires : tie.Need-replay-records-requires
-replay-records-requires c κs = search needs
+-- what was moved lies in the buffer
+moved-fits : (c : tie.After-replay-read-arg) → c .before .before .before .before .before .before .before .move-to-front .result ≤ length (c .before .before .before .before .before .before .before .move-to-front .last .0)
+moved-fits c = search needs
+
+slice-aggregate-replay-read : tie.Need-slice-aggregate-replay-read
+slice-aggregate-replay-read c = let moved = c .before .before .before .before .before .before .before .move-to-front in sym (length-take-le (moved .result) (moved .last .0) (moved-fits c))
+
+replay-read-requires : tie.Need-replay-read-requires
+replay-read-requires c κs = search needs
 
 same-length : tie.Need-same-length
 same-length c = search needs
@@ -34,20 +44,62 @@ same-length-4 : tie.Need-same-length-4
 same-length-4 c = search needs
 
 returns : tie.Need-returns
-returns c = let read = c .before .before .before .before .before .before .before .before .before .before .before .before .before .read-more in
-    inside-whole (read .last .1 .1 .0) (read .result) (c .before .before .before .before .before .before .replay-records .ensures .0)
+returns c = let moved = c .before .before .before .before .before .before .before .before .before .before .before .before .before .before .before .before .before .move-to-front in
+    let replayed = c .before .before .before .before .before .before .replay-read .ensures in
+    let start : 0 ≡ lineStart (c .before .before .before .before .before .before .before .before .before .before .before .before .before .before .before .before .before .before .before .before .before .before .before .before .args .progress) = search (line-start-front, needs) in
+    (inside-whole (moved .last .0) (moved .result) (replayed .0), turn-whole (moved .last .0) (moved .result) (moved-fits (c .before .before .before .before .before .before .before .before .before .before)) start (replayed .1))
+
+read-more-requires : tie.Need-read-more-requires
+read-more-requires c κs = search needs
+
+slice-reshare-prefix-replay-read-2 : tie.Need-slice-reshare-prefix-replay-read-2
+slice-reshare-prefix-replay-read-2 c = search needs
+
+slice-aggregate-replay-read-2 : tie.Need-slice-aggregate-replay-read-2
+slice-aggregate-replay-read-2 c = let read = c .before .before .before .read-more in sym (length-take-le (read .result) (read .last .1 .1 .0) (search needs))
+
+replay-read-requires-2 : tie.Need-replay-read-requires-2
+replay-read-requires-2 c κs = search needs
+
+same-length-5 : tie.Need-same-length-5
+same-length-5 c = search needs
+
+same-length-6 : tie.Need-same-length-6
+same-length-6 c = search needs
+
+same-length-7 : tie.Need-same-length-7
+same-length-7 c = search needs
+
+same-length-8 : tie.Need-same-length-8
+same-length-8 c = search needs
+
+returns-2 : tie.Need-returns-2
+returns-2 c = let read = c .before .before .before .before .before .before .before .before .before .before .before .before .before .read-more in
+    let replayed = c .before .before .before .before .before .before .replay-read2 .ensures in
+    let start : c .before .before .before .before .before .before .before .before .before .before .before .before .before .before .before .before .before .before .before .before .before .before .before .before .before .before .args .progress .waiting ≡ lineStart (c .before .before .before .before .before .before .before .before .before .before .before .before .before .before .before .before .before .before .before .before .before .before .before .before .before .before .args .progress) = search (line-start-after, needs) in
+    (inside-whole (read .last .1 .1 .0) (read .result) (replayed .0), turn-whole (read .last .1 .1 .0) (read .result) (search needs) start (replayed .1))
 
 pub replay-more-spec : {M : Type 1} → statement M
 replay-more-spec =
     tie.close
     (tie.spec
     move-to-front-requires
-    read-more-requires
-    slice-reshare-prefix-replay-records
-    slice-aggregate-replay-records
-    replay-records-requires
+    is-whole-requires
+    flush-requires
+    slice-reshare-prefix-replay-read
+    slice-aggregate-replay-read
+    replay-read-requires
     same-length
     same-length-2
     same-length-3
     same-length-4
-    returns)
+    returns
+    read-more-requires
+    slice-reshare-prefix-replay-read-2
+    slice-aggregate-replay-read-2
+    replay-read-requires-2
+    same-length-5
+    same-length-6
+    same-length-7
+    same-length-8
+    returns-2)

@@ -1,0 +1,170 @@
+-- Records played in turn with their lines, and what a whole journal comes to.
+use Prim.Native.Nat.{ℕ, zero, suc, _+_, _-_, _*_, _≤_, zero-le, _<_}
+use mathlib.Core.Path.{_≡_, refl, sym, ap, _∙_, subst}
+use mathlib.Core.Bool.{true, false}
+use mathlib.Core.List.{List, [], _∷_, _++_, map, map-append, append-nil}
+use native.Mathlib.Nat.{add-zero, zero-add}
+use native.Mathlib.Omega.{arith}
+use lib.ListN.{length, take, drop, length-map, length-append, take-append-drop}
+use lib.Seq.{take-at}
+use Rattle.descriptor.specs.declared.Reply.{Reply}
+use Rattle.descriptor.specs.Replies.{statusOf}
+use Rattle.interface.specs.Places.{Tables, sized, tablesOf, tables}
+use Rattle.interface.specs.Boot.{boot}
+use Rattle.interface.specs.Verdicts.{Call}
+use Rattle.interface.specs.Rules.{bootReply, bootTables}
+use Rattle.interface.specs.History.{hypercalls}
+use Rattle.interface.specs.Demand.{LentOut, tablesAfterAll, historyOf}
+use Rattle.interface.specs.Outcomes.{Booted}
+use Rattle.interface.specs.Journal.{recordedCall, Line, spelledLines, beginning, Contents, contentsFrom, contents, recorded, linesFrom, lastLines, replayFrom, replay}
+use Rattle.interface.proofs.BoolLaws.{cases}
+use Rattle.interface.proofs.DemandLaws.{demand-3}
+use Rattle.interface.proofs.JournalLaws.{IsRecord, NoRecord, none-read, parts-read, record-added, tables-append, lines-append, length-lines, spelled-append, parts-in-turn, replay-none}
+use Rattle.journal.specs.Texts.{lineBytes, Wrote}
+use Rattle.journal.proofs.TextLaws.{wrote-then}
+use Rattle.playback.specs.Playing.{isWhole, Plays, Stops, Replays}
+use Rattle.playback.specs.declared.Played.{Played}
+use Rattle.playback.proofs.LineLaws.{wrote-nothing}
+use Rattle.playback.proofs.FoundLaws.{not-whole, FoundWhole, body-taken, front-next}
+
+module _ (before : Tables) (index : ℕ) (out : List ℕ) (at : ℕ) (inside : at ≤ length out) where
+  -- no bytes are played
+  pub plays-start : Plays [] before index out at before index out at
+  unfolding contentsFrom linesFrom spelledLines tablesAfterAll
+  plays-start =
+      record {
+        all-whole = refl;
+        leaves = refl;
+        counts = sym (add-zero index);
+        writes = wrote-nothing out at inside;
+      }
+
+  -- one record more
+  module _ {here : Tables} {next : ℕ} {middle : List ℕ} {place : ℕ} where
+    plays-next : (front : List ℕ) (kind : ℕ) (body : List ℕ) {later : Tables} {outAfter : List ℕ} {end : ℕ} → Plays front before index out at here next middle place →
+        IsRecord kind body → later ≡ tablesAfterAll here (hypercalls (recordedCall kind body) ∷ []) →
+        Wrote middle place (spelledLines (linesFrom here next (recordedCall kind body ∷ []))) outAfter end →
+        Plays (front ++ (kind ∷ body)) before index out at later (next + 1) outAfter end
+    plays-next front kind body {outAfter = outAfter} {end = end} plays one is-later wrote =
+        let c = recordedCall kind body in
+        let calls = contents front .calls in
+        let added = record-added front kind body (plays .all-whole) one in
+        let lines : linesFrom before index (calls ++ (c ∷ [])) ≡ linesFrom before index calls ++ linesFrom here next (c ∷ []) =
+        rw (plays .leaves, plays .counts) (lines-append before index calls (c ∷ [])) in
+        let text : spelledLines (linesFrom before index calls) ++ spelledLines (linesFrom here next (c ∷ [])) ≡ spelledLines (linesFrom before index (calls ++ (c ∷ []))) =
+        sym (ap spelledLines lines ∙ spelled-append (linesFrom before index calls) (linesFrom here next (c ∷ []))) in
+        record {
+          all-whole = ap (λ (read : Contents). read .left) added;
+          leaves =
+              is-later
+              ∙ ap (λ (t : Tables). tablesAfterAll t (hypercalls c ∷ [])) (plays .leaves)
+              ∙ sym (tables-append before calls (c ∷ []))
+              ∙ sym (ap (λ (read : Contents). tablesAfterAll before (map hypercalls (read .calls))) added);
+          counts = rw (added, length-append calls (c ∷ [])) (omega (arith, plays .counts));
+          writes =
+              subst (λ (read : Contents). Wrote out at (spelledLines (linesFrom before index (read .calls))) outAfter end) (sym added)
+              (subst (λ (t : List ℕ). Wrote out at t outAfter end) text (wrote-then inside (plays .writes) wrote));
+        }
+
+    -- the record that is found where the records played end
+    pub plays-more : (input : List ℕ) (from kind size : ℕ) {later : Tables} {outAfter : List ℕ} {end : ℕ} → Plays (take from input) before index out at here next middle place →
+        FoundWhole (drop from input) kind size →
+        later ≡ tablesAfterAll here (hypercalls (recordedCall kind (take (from + 1 + size - (from + 1)) (drop (from + 1) input))) ∷ []) →
+        Wrote middle place (spelledLines (linesFrom here next (recordedCall kind (take (from + 1 + size - (from + 1)) (drop (from + 1) input)) ∷ []))) outAfter end →
+        Plays (take (from + 1 + size) input) before index out at later (next + 1) outAfter end
+    plays-more input from kind size plays found is-later wrote =
+        let body = body-taken input from kind size found in
+        rw (front-next input from kind size found)
+        (plays-next (take from input) kind (found .body) plays (found .is-record) (rw body at is-later) (rw body at wrote))
+
+-- the first events are those of the first calls
+first-events : (first second : List Call) (count : ℕ) → count ≡ length first → take count (map hypercalls (first ++ second)) ≡ map hypercalls first
+first-events first second count e =
+    rw (map-append hypercalls first second) (take-at (map hypercalls first) (map hypercalls second) count (length-map first hypercalls ∙ sym e))
+
+-- records played from boot's tables
+pub plays-from-boot : {bytes out outAfter : List ℕ} {here after : Tables} {index next at end : ℕ} → here ≡ tablesOf boot → Plays bytes here index out at after next outAfter end →
+    Plays bytes (tablesOf boot) index out at after next outAfter end
+plays-from-boot {bytes} {out} {outAfter} {here} {after} {index} {next} {at} {end} booted plays =
+    subst (λ (t : Tables). Plays bytes t index out at after next outAfter end) booted plays
+
+-- where playing stops with room for a line, no whole record begins
+pub stopped-none : {input out : List ℕ} {played : Played} → Stops input out played → played .written + lineBytes ≤ length out → NoRecord (drop (played .at) input)
+stopped-none {input} {played = played} stops room =
+    not-whole (drop (played .at) input) (λ t. omega (arith, stops .no-room (ap isWhole (stops .stands) ∙ t)))
+
+-- the records of a journal up to a place played from boot on
+module _ (journal : List ℕ) (at : ℕ) {after : Tables} {records : ℕ} {text middle : List ℕ} {place : ℕ}
+    (plays : Plays (take at journal) (tablesOf boot) 0 text 0 after records middle place) where
+  abbrev front : List ℕ
+  front = take at journal
+
+  abbrev rest : List ℕ
+  rest = drop at journal
+
+  records-are : records ≡ length (contents front .calls)
+  records-are = plays .counts ∙ zero-add _
+
+  calls-split : contents journal .calls ≡ contents front .calls ++ contents rest .calls
+  calls-split =
+      ap (λ (l : List ℕ). contents l .calls) (sym (take-append-drop at journal))
+      ∙ ap (λ (read : Contents). read .calls) (parts-read front rest)
+      ∙ ap (λ (l : List ℕ). contents front .calls ++ contents (l ++ rest) .calls) (plays .all-whole)
+
+  lines-split : replay journal ≡ linesFrom (tablesOf boot) 0 (contents front .calls) ++ replayFrom after records rest
+  lines-split =
+      ap replay (sym (take-append-drop at journal))
+      ∙ parts-in-turn (tablesOf boot) 0 front rest
+      ∙ (rw (plays .all-whole, ← plays .leaves, ← plays .counts))
+
+  events-are : take records (recorded journal) ≡ recorded front
+  events-are = rw calls-split (first-events (contents front .calls) (contents rest .calls) records records-are)
+
+  replays : {lines : List Line} {textAfter : List ℕ} {bytes : ℕ} → Wrote text 0 (spelledLines lines) textAfter bytes → Replays journal records lines text after textAfter bytes
+  replays wrote =
+      record {
+        counts = rw (length-map (contents journal .calls) hypercalls, calls-split) (omega (arith, records-are, length-append (contents front .calls) (contents rest .calls)));
+        leaves = rw events-are (plays .leaves);
+        lent = subst (λ (t : Tables). LentOut t (historyOf (take records (recorded journal)))) (sym (rw events-are (plays .leaves))) (demand-3 (take records (recorded journal)));
+        writes = wrote;
+      }
+
+  -- the lines of the records done are the journal's first
+  pub replays-part : Replays journal records (take records (replay journal)) text after middle place
+  replays-part =
+      replays
+      (rw (lines-split, take-at (linesFrom (tablesOf boot) 0 (contents front .calls)) (replayFrom after records rest) records (length-lines (tablesOf boot) 0 (contents front .calls) ∙ sym records-are))
+      (plays .writes))
+
+  -- and with the last lines these are all
+  module _ (none : NoRecord rest) where
+    pub all-records : records ≡ length (recorded journal)
+    all-records =
+        let no-more : contents rest .calls ≡ [] = ap (λ (read : Contents). read .calls) (none-read rest none (length rest)) in
+        rw (length-map (contents journal .calls) hypercalls, calls-split, no-more, append-nil (contents front .calls)) records-are
+
+    pub replays-all : {textAfter : List ℕ} {bytes : ℕ} → Wrote middle place (spelledLines (lastLines (beginning rest) records)) textAfter bytes →
+        Replays journal records (replay journal) text after textAfter bytes
+    replays-all wrote =
+        replays
+        (rw (lines-split, replay-none after records rest none, spelled-append (linesFrom (tablesOf boot) 0 (contents front .calls)) (lastLines (beginning rest) records))
+        (wrote-then zero-le (plays .writes) wrote))
+
+-- boot tells whether the tables have their lengths
+module _ {places objects placesAfter objectsAfter : List ℕ} {reply : Reply} (booted : Booted places objects placesAfter objectsAfter reply) where
+  abbrev before-boot : Tables
+  before-boot = tables places objects
+
+  pub boot-refused : (statusOf reply ≡ 0 → ⊥) → (sized before-boot ≡ false) × (tables placesAfter objectsAfter ≡ before-boot)
+  unfolding bootReply bootTables
+  boot-refused refused =
+      cases (sized before-boot)
+      (λ (t : sized before-boot ≡ true). absurd (refused (ap statusOf (booted .replies) ∙ rw t)))
+      (λ (f : sized before-boot ≡ false). (f, booted .leaves ∙ rw f))
+
+  pub boot-done : statusOf reply ≡ 0 → (sized before-boot ≡ true) × (tables placesAfter objectsAfter ≡ tablesOf boot)
+  unfolding bootReply bootTables
+  boot-done done =
+      cases (sized before-boot) (λ (t : sized before-boot ≡ true). (t, booted .leaves ∙ rw t))
+      (λ (f : sized before-boot ≡ false).
+      let status : statusOf reply ≡ 17 = ap statusOf (booted .replies) ∙ rw f in absurd (omega arith))

@@ -1,0 +1,61 @@
+-- Each arm writes the line of what it found, or none.
+use borrow.Author.Needs.{needs}
+use native.Mathlib.Omega.{arith}
+use denote.Ref.{now}
+use Rattle.playback.specs.declared.Found.the-variants.{Nothing, Short}
+use Rattle.playback.proofs.LineLaws.{wrote-nothing, stop-written}
+use Rattle.playback.proofs.add_stop_line.Statement.{statement}
+use Rattle.playback.proofs.add_stop_line.Tie as tie
+
+enum-told : tie.Need-enum-told
+enum-told c = search needs
+
+add-line-requires : tie.Need-add-line-requires
+add-line-requires c κs = search needs
+
+enum-known-next : tie.Need-enum-known-next
+enum-known-next c = search needs
+
+add-line-requires-2 : tie.Need-add-line-requires-2
+add-line-requires-2 c κs = search needs
+
+enum-told-2 : tie.Need-enum-told-2
+enum-told-2 c = search needs
+
+enum-told-3 : tie.Need-enum-told-3
+enum-told-3 c = search needs
+
+same-length : tie.Need-same-length
+same-length c = search needs
+
+returns : tie.Need-returns
+returns c = (stop-written _ Short (c .before .before .before .before .enum-told .given .1) (c .before .before .add-line .ensures .0), c .before .before .add-line .ensures .1)
+
+same-length-2 : tie.Need-same-length-2
+same-length-2 c = search needs
+
+returns-2 : tie.Need-returns-2
+returns-2 c = (stop-written _ _ (c .before .before .before .before .before .next .given .1) (c .before .before .add-line2 .ensures .0), c .before .before .add-line2 .ensures .1)
+
+returns-3 : tie.Need-returns-3
+returns-3 c = (stop-written _ Nothing (c .enum-told2 .given .1) (wrote-nothing (now (c .before .before .before .args .out)) (c .before .before .before .args .at) (omega (arith, c .before .before .before .pre))), omega arith)
+
+returns-4 : tie.Need-returns-4
+returns-4 c = (stop-written _ _ (c .enum-told3 .given .1) (wrote-nothing (now (c .before .before .before .args .out)) (c .before .before .before .args .at) (omega (arith, c .before .before .before .pre))), omega arith)
+
+pub add-stop-line-spec : {M : Type 1} → statement M
+add-stop-line-spec =
+    tie.close
+    (tie.spec
+    enum-told
+    add-line-requires
+    enum-known-next
+    add-line-requires-2
+    enum-told-2
+    enum-told-3
+    same-length
+    returns
+    same-length-2
+    returns-2
+    returns-3
+    returns-4)

@@ -1,0 +1,52 @@
+-- The tables are those after the hypercall, and the line is that of its reply.
+use borrow.Author.Needs.{needs}
+use mathlib.Core.Path.{ap, _∙_}
+use denote.Ref.{now}
+use Rattle.interface.specs.Places.{tables}
+use Rattle.interface.specs.Outcomes.{Answered}
+use Rattle.interface.specs.Journal.{recordedCall}
+use Rattle.playback.proofs.LineLaws.{after-one, line-played}
+use Rattle.playback.proofs.play_record.Statement.{statement}
+use Rattle.playback.proofs.play_record.Tie as tie
+
+play-requires : tie.Need-play-requires
+play-requires c κs = search needs
+
+status-requires : tie.Need-status-requires
+status-requires c κs = search needs
+
+answer-requires : tie.Need-answer-requires
+answer-requires c κs = search needs
+
+add-line-requires : tie.Need-add-line-requires
+add-line-requires c κs = search needs
+
+same-length : tie.Need-same-length
+same-length c = search needs
+
+same-length-2 : tie.Need-same-length-2
+same-length-2 c = search needs
+
+same-length-3 : tie.Need-same-length-3
+same-length-3 c = search needs
+
+returns : tie.Need-returns
+returns c = let start = c .before .before .before .before .before .before .before .before .before .before .before .before .before .before .before .before .before .args in
+    let here = tables (now (start .places)) (now (start .objects)) in
+    let playing = c .before .before .before .before .before .before .before .before .before .before .play .ensures in (
+      ap (λ (p : Answered). p .tables) playing ∙ after-one here (recordedCall (start .kind) (now (start .body))),
+      line-played here (start .index) (start .kind) (now (start .body)) (ap (λ (p : Answered). p .reply) playing) (c .before .before .before .before .before .status .ensures) (c .before .before .before .before .answer .ensures) (c .before .before .add-line .ensures .0),
+    )
+
+pub play-record-spec : {M : Type 1} → statement M
+play-record-spec =
+    tie.close
+    (tie.spec
+    play-requires
+    status-requires
+    answer-requires
+    add-line-requires
+    same-length
+    same-length-2
+    same-length-3
+    returns)
