@@ -85,7 +85,7 @@ pub fn create_pd(selector: u32, places: &mut [u32], objects: &mut [u32]) -> Repl
         ROOT_EC,
         selector,
         ROOT_PD,
-        0,
+        Descriptor::NULL.word(),
         places,
         objects,
     )
