@@ -1,16 +1,14 @@
 -- What is found at a position of some bytes: by the code's tests, and what a whole record there tells.
 use Prim.Native.Nat.{ℕ, suc, _+_, _-_, _≤_, _<_}
 use mathlib.Core.Path.{_≡_, refl, sym, ap, _∙_}
-use mathlib.Core.Bool.{true, false}
-use mathlib.Core.List.{List, [], _∷_, _++_}
+use mathlib.Core.Bool.{true}
+use mathlib.Core.List.{List, _∷_, _++_}
 use native.Mathlib.Omega.{arith}
-use lib.Dec.{eqb, ltb}
 use lib.ListN.{length, take, drop, getD, length-drop, length-append, drop-of-length-le}
 use lib.Seq.{drop-cons, drop-drop, length-take-le, take-at, take-add}
 use borrow.Author.Tests.{eq-eqb, ne-eqb, lt-ltb, le-ltb}
 use Rattle.interface.specs.Journal.{bodyBytes, Beginning, empty, of-no-kind, cut-off, whole, beginning}
 use Rattle.interface.proofs.JournalLaws.{IsRecord, whole-begins, NoRecord}
-use Rattle.playback.specs.declared.Found.{Found}
 use Rattle.playback.specs.declared.Found.the-variants.{Nothing, Unknown, Short, Whole}
 use Rattle.playback.specs.Playing.{foundOf, foundIn, isWhole}
 

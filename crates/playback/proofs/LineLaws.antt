@@ -4,7 +4,7 @@ use mathlib.Core.Path.{_≡_, refl, sym, ap, _∙_, subst}
 use mathlib.Core.List.{List, [], _∷_, _++_, append-assoc, append-nil}
 use native.Mathlib.Nat.{add-zero, zero-add}
 use native.Mathlib.Omega.{arith}
-use lib.ListN.{length, take, drop, length-append, length-drop, take-append-drop}
+use lib.ListN.{length, take, drop, length-drop, take-append-drop}
 use lib.Seq.{length-take-le, drop-append-le, drop-drop}
 use borrow.Author.Tests.{le-ltb}
 use borrow.Rule.Slice.PartMut.{putMid, same-len-mid}
@@ -79,8 +79,8 @@ unfolding tablesAfterAll tablesAfter
 after-one here c = refl
 
 -- the line of one hypercall
-one-line : (here : Tables) (index kind : ℕ) (c : Call) (status answer : ℕ) → kind ≡ c .number → status ≡ statusOf (hypercallReply here c) → answer ≡ answerOf (hypercallReply here c) →
-    spelled (done index kind status answer) ≡ spelledLines (linesFrom here index (c ∷ []))
+one-line : (here : Tables) (index kind : ℕ) (c : Call) (status answer : ℕ) → kind ≡ c .number → status ≡ statusOf (hypercallReply here c) →
+    answer ≡ answerOf (hypercallReply here c) → spelled (done index kind status answer) ≡ spelledLines (linesFrom here index (c ∷ []))
 unfolding linesFrom spelledLines
 one-line here index kind c status answer is-kind is-status is-answer = rw (is-kind, is-status, is-answer) (sym (append-nil _))
 

@@ -1,5 +1,5 @@
 -- Records played in turn with their lines, and what a whole journal comes to.
-use Prim.Native.Nat.{ℕ, zero, suc, _+_, _-_, _*_, _≤_, zero-le, _<_}
+use Prim.Native.Nat.{ℕ, _+_, _-_, _≤_, zero-le}
 use mathlib.Core.Path.{_≡_, refl, sym, ap, _∙_, subst}
 use mathlib.Core.Bool.{true, false}
 use mathlib.Core.List.{List, [], _∷_, _++_, map, map-append, append-nil}
@@ -132,9 +132,9 @@ module _ (journal : List ℕ) (at : ℕ) {after : Tables} {records : ℕ} {text 
   -- the lines of the records done are the journal's first
   pub replays-part : Replays journal records (take records (replay journal)) text after middle place
   replays-part =
-      replays
-      (rw (lines-split, take-at (linesFrom (tablesOf boot) 0 (contents front .calls)) (replayFrom after records rest) records (length-lines (tablesOf boot) 0 (contents front .calls) ∙ sym records-are))
-      (plays .writes))
+      let lines = linesFrom (tablesOf boot) 0 (contents front .calls) in
+      let long = length-lines (tablesOf boot) 0 (contents front .calls) in
+      replays (rw (lines-split, take-at lines (replayFrom after records rest) records (long ∙ sym records-are)) (plays .writes))
 
   -- and with the last lines these are all
   module _ (none : NoRecord rest) where

@@ -6,7 +6,7 @@ use mathlib.Core.List.{List, []}
 use lib.ListN.{length, take, drop}
 use Rattle.interface.specs.Places.{Tables, sized}
 use Rattle.interface.specs.Demand.{LentOut, tablesAfterAll, fromBoot, historyOf}
-use Rattle.interface.specs.Journal.{Line, spelledLines, Beginning, empty, of-no-kind, cut-off, whole, beginning, contents, recorded, linesFrom, lastLines, replay}
+use Rattle.interface.specs.Journal.{Line, spelledLines, Beginning, empty, of-no-kind, cut-off, whole, beginning, contents, recorded, linesFrom, replay}
 use Rattle.journal.specs.Texts.{lineBytes, Wrote}
 use Rattle.playback.specs.declared.Found.{Found}
 use Rattle.playback.specs.declared.Found.the-variants.{Nothing, Unknown, Short, Whole}

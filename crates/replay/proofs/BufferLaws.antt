@@ -1,5 +1,5 @@
 -- Positions in the buffers, a part of a buffer that is copied to its front byte by byte, and records played in a front part of a buffer.
-use Prim.Native.Nat.{ℕ, suc, _+_, _≤_, _<_}
+use Prim.Native.Nat.{ℕ, suc, _+_, _-_, _≤_, _<_}
 use mathlib.Core.Path.{_≡_, sym, ap, _∙_, subst}
 use mathlib.Core.Bool.{Bool, true, false}
 use mathlib.Core.List.{List}
@@ -7,7 +7,7 @@ use native.Mathlib.Nat.{zero-add}
 use native.Mathlib.Numerals.{add-one}
 use native.Mathlib.Omega.{arith}
 use lib.ListN.{length, take, drop, getD, set, length-take, length-drop}
-use lib.Seq.{getD-drop, drop-at, length-take-le, paste, paste-suc}
+use lib.Seq.{getD-drop, drop-at, length-take-le, take-at, paste, paste-suc}
 use Rattle.interface.specs.Places.{Tables}
 use Rattle.playback.specs.Playing.{isWhole}
 use Rattle.replay.specs.declared.Progress.{Progress}
@@ -33,6 +33,13 @@ module _ (before : List ℕ) (from size i : ℕ) (fits : from + size ≤ length 
       let turn : set (paste before 0 (drop from before) i) (0 + i) (getD (drop from before) i 0) ≡ paste before 0 (drop from before) (suc i) =
       paste-suc before 0 (drop from before) i 0 (omega arith) (omega arith) in
       rw (e, still, ← getD-drop from before i 0, add-one) (simp zero-add at turn)
+
+-- the bytes moved to the front of a buffer stand there
+pub moved-front : (before after : List ℕ) (from to : ℕ) → from ≤ to → to ≤ length before → after ≡ fronted before from (to - from) →
+    take (to - from) after ≡ take (to - from) (drop from before)
+moved-front before after from to forward inside moved =
+    let left = length-drop from before in
+    rw moved (take-at (take (to - from) (drop from before)) (drop (to - from) before) (to - from) (length-take-le (to - from) (drop from before) (omega arith)))
 
 -- what holds of a front part of the input buffer holds of the buffer
 module _ (input : List ℕ) (count : ℕ) {progress : Progress} {out : List ℕ} where

@@ -1,5 +1,5 @@
 -- The buffers of the replay program.
-use Prim.Native.Nat.{ℕ, _*_, _≤_}
+use Prim.Native.Nat.{ℕ, _-_, _*_, _≤_}
 use mathlib.Core.Path.{_≡_}
 use mathlib.Core.Bool.{Bool, true, false}
 use mathlib.Core.List.{List, _++_}
@@ -45,3 +45,8 @@ pub record Turn (input : List ℕ) (before : Tables) (count : ℕ) (out : List �
   pub all-read : progress .filled ≡ length input
   pub plays : Plays (take (progress .at) input) before count out start after (progress .done) outAfter (progress .waiting)
   pub stands : progress .next ≡ foundIn (drop (progress .at) input)
+
+-- the bytes of the input buffer that a progress left stand first among those read by a later one
+pub record Carries (progress : Progress) (input : List ℕ) (later : Progress) (inputAfter : List ℕ) : Type 0 where
+  pub still : take (progress .filled - progress .at) inputAfter ≡ take (progress .filled - progress .at) (drop (progress .at) input)
+  pub among : progress .filled - progress .at ≤ later .filled

@@ -5,7 +5,7 @@ ghost use lib.ListN.{length, take};
 ghost use Rattle.interface.specs.Places.{tables};
 ghost use Rattle.journal.specs.Texts.{lineBytes};
 ghost use Rattle.playback.specs.Playing.{isWhole};
-ghost use Rattle.replay.specs.Buffers.{Waits, Inside, isEnd, fronted, lineStart, Turn};
+ghost use Rattle.replay.specs.Buffers.{Waits, Inside, isEnd, fronted, lineStart, Turn, Carries};
 use journal::lines;
 use libc::STDIN_FILENO;
 use libc::STDOUT_FILENO;
@@ -68,7 +68,8 @@ fn move_to_front(buffer: &mut [u8], from: usize, to: usize) -> usize
 // which is named on standard error.
 fn read_more(descriptor: i32, name: &[u8], buffer: &mut [u8], kept: usize) -> usize
     requires { ⌜ kept ≤ length (now buffer) ⌝ }
-    ensures { λ r. ⌜ r ≤ length (now (buffer .exit)) ⌝ }
+    ensures { λ r. ⌜ (kept ≤ r) × (r ≤ length (now (buffer .exit))) ⌝ }
+    ensures { λ r. ⌜ take kept (now (buffer .exit)) ≡ take kept (now (buffer .entry)) ⌝ }
 {
     let got = libc::read(descriptor, &mut buffer[kept..]);
     if got < 0 {
@@ -152,6 +153,7 @@ fn replay_more(
     requires { ⌜ Inside progress (now input) (now out) ⌝ }
     ensures { λ r. ⌜ Inside r (now (input .exit)) (now (out .exit)) ⌝ }
     ensures { λ r. ⌜ Turn (take (r .filled) (now (input .exit))) (tables (now (places .entry)) (now (objects .entry))) (progress .done) (now (out .entry)) (lineStart progress) (tables (now (places .exit)) (now (objects .exit))) (now (out .exit)) r ⌝ }
+    ensures { λ r. ⌜ Carries progress (now (input .entry)) r (now (input .exit)) ⌝ }
 {
     let kept = move_to_front(input, progress.at, progress.filled);
     let next = progress.next;

@@ -1,10 +1,12 @@
 -- What was read lies in the input buffer, and so do the records that were played.
 use Prim.Native.Nat.{_≤_}
-use mathlib.Core.Path.{_≡_, sym}
+use mathlib.Core.Path.{_≡_, sym, _∙_}
+use native.Mathlib.Omega.{arith}
 use lib.ListN.{length}
 use lib.Seq.{length-take-le}
+use denote.Ref.{now}
 use Rattle.replay.specs.Buffers.{lineStart}
-use Rattle.replay.proofs.BufferLaws.{inside-whole, turn-whole, line-start-front, line-start-after}
+use Rattle.replay.proofs.BufferLaws.{moved-front, inside-whole, turn-whole, line-start-front, line-start-after}
 use borrow.Author.Needs.{needs}
 use Rattle.replay.proofs.replay_more.Statement.{statement}
 use Rattle.replay.proofs.replay_more.Tie as tie
@@ -47,7 +49,11 @@ returns : tie.Need-returns
 returns c = let moved = c .before .before .before .before .before .before .before .before .before .before .before .before .before .before .before .before .before .move-to-front in
     let replayed = c .before .before .before .before .before .before .replay-read .ensures in
     let start : 0 ≡ lineStart (c .before .before .before .before .before .before .before .before .before .before .before .before .before .before .before .before .before .before .before .before .before .before .before .before .args .progress) = search (line-start-front, needs) in
-    (inside-whole (moved .last .0) (moved .result) (replayed .0), turn-whole (moved .last .0) (moved .result) (moved-fits (c .before .before .before .before .before .before .before .before .before .before)) start (replayed .1))
+    let begun = c .before .before .before .before .before .before .before .before .before .before .before .before .before .before .before .before .before .before .before .before .before .before .before .before in
+    let all = replayed .1 .all-read ∙ length-take-le (moved .result) (moved .last .0) (moved-fits (c .before .before .before .before .before .before .before .before .before .before)) in (
+      inside-whole (moved .last .0) (moved .result) (replayed .0),
+      (turn-whole (moved .last .0) (moved .result) (moved-fits (c .before .before .before .before .before .before .before .before .before .before)) start (replayed .1), record { still = moved-front (now (begun .args .input)) (moved .last .0) _ _ (begun .pre .next) (begun .pre .read) (moved .ensures .1); among = omega (arith, all, moved .ensures .0) }),
+    )
 
 read-more-requires : tie.Need-read-more-requires
 read-more-requires c κs = search needs
@@ -77,7 +83,12 @@ returns-2 : tie.Need-returns-2
 returns-2 c = let read = c .before .before .before .before .before .before .before .before .before .before .before .before .before .read-more in
     let replayed = c .before .before .before .before .before .before .replay-read2 .ensures in
     let start : c .before .before .before .before .before .before .before .before .before .before .before .before .before .before .before .before .before .before .before .before .before .before .before .before .before .before .args .progress .waiting ≡ lineStart (c .before .before .before .before .before .before .before .before .before .before .before .before .before .before .before .before .before .before .before .before .before .before .before .before .before .before .args .progress) = search (line-start-after, needs) in
-    (inside-whole (read .last .1 .1 .0) (read .result) (replayed .0), turn-whole (read .last .1 .1 .0) (read .result) (search needs) start (replayed .1))
+    let begun = c .before .before .before .before .before .before .before .before .before .before .before .before .before .before .before .before .before .before .before .before .before .before .before .before .before .before in
+    let moved = c .before .before .before .before .before .before .before .before .before .before .before .before .before .before .before .before .before .before .before .move-to-front in
+    let all = replayed .1 .all-read ∙ length-take-le (read .result) (read .last .1 .1 .0) (read .ensures .0 .1) in (
+      inside-whole (read .last .1 .1 .0) (read .result) (replayed .0),
+      (turn-whole (read .last .1 .1 .0) (read .result) (read .ensures .0 .1) start (replayed .1), record { still = (rw (moved .ensures .0) at (read .ensures .1)) ∙ moved-front (now (begun .args .input)) (moved .last .0) _ _ (begun .pre .next) (begun .pre .read) (moved .ensures .1); among = omega (arith, all, moved .ensures .0, read .ensures .0 .0) }),
+    )
 
 pub replay-more-spec : {M : Type 1} → statement M
 replay-more-spec =
