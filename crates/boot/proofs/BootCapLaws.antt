@@ -4,42 +4,50 @@ use mathlib.Core.Path.{_≡_, refl, ap, _∙_}
 use mathlib.Core.Bool.{Bool, true, false, _&&_}
 use mathlib.Core.List.{[], _∷_}
 use lib.Dec.{eqb, leb, ltb}
-use borrow.Author.Tests.{lt-ltb, le-ltb, eq-eqb, ne-eqb, leb-true}
-use Rattle.words.specs.Sizes.{memory, io, object, domainOf, spaceOf, selectorOf}
+use borrow.Author.Tests.{lt-ltb, le-ltb, eq-eqb, ne-eqb, leb-true, ltb-true}
+use native.Mathlib.Omega.{arith}
+use Rattle.words.specs.Sizes.{memory, io, object, records, domainOf, spaceOf, selectorOf}
+use Rattle.descriptor.specs.declared.ObjectNumber.{ObjectNumber}
+use Rattle.descriptor.specs.declared.FoundObject.{FoundObject}
+use Rattle.descriptor.specs.declared.FoundObject.the-variants.{Numbered, Beyond}
+use Rattle.descriptor.specs.Numbers.{numbered}
+use Rattle.descriptor.proofs.DescriptorLaws.{numbered-so}
 use Rattle.interface.specs.Basics.{word}
 use Rattle.interface.specs.Places.{Cap, nothing, parentless, free, PD, EC, SC, PT, SM, kindWord, greatestOf, greatest}
 use Rattle.interface.specs.Boot.{hypervisor, root, cpus, rootPd, rootEc, rootSc, rootObjects, exc, rootPriority, rootQuantum, noEc, bootRecord, bootObject, hypervisorCap, rootCap, bootCap}
-use Rattle.interface.proofs.BoolLaws.{and-left, and-right}
+use Rattle.interface.proofs.BoolLaws.{cases, and-left, and-right}
 use Rattle.objects.specs.Records.{fiveWords}
+use Rattle.boot.specs.Held.{hypervisorObject, rootObject, heldCap}
 use Rattle.objects.proofs.RecordTableLaws.{short-words, two-words, four-words}
 
--- the records
-module _ (number : ℕ) where
-  pub idle-words : number < cpus → word (fiveWords SC noEc 0 0 0) ≡ word (bootRecord number)
+-- the records, by their numbers as the code reads it
+module _ (record-number number : ℕ) (is-number : number ≡ record-number) where
+  pub idle-words : number < cpus → word (fiveWords SC noEc 0 0 0) ≡ word (bootRecord record-number)
   unfolding bootRecord
-  idle-words l = rw (lt-ltb number cpus l) (two-words SC noEc)
+  idle-words l = rw (← is-number, lt-ltb number cpus l) (two-words SC noEc)
 
   module _ (g : cpus ≤ number) where
-    pub interrupt-words : number < rootPd → word (fiveWords SM 0 0 0 0) ≡ word (bootRecord number)
+    pub interrupt-words : number < rootPd → word (fiveWords SM 0 0 0 0) ≡ word (bootRecord record-number)
     unfolding bootRecord
-    interrupt-words l = rw (le-ltb number cpus g, lt-ltb number rootPd l) (short-words (SM ∷ []) 4)
+    interrupt-words l = rw (← is-number, le-ltb number cpus g, lt-ltb number rootPd l) (short-words (SM ∷ []) 4)
 
     module _ (h : rootPd ≤ number) where
-      pub pd-words : number ≡ rootPd → word (fiveWords PD root 0 0 0) ≡ word (bootRecord number)
+      pub pd-words : number ≡ rootPd → word (fiveWords PD root 0 0 0) ≡ word (bootRecord record-number)
       unfolding bootRecord
-      pd-words e = rw (le-ltb number cpus g, le-ltb number rootPd h, eq-eqb number rootPd e) (two-words PD root)
+      pd-words e = rw (← is-number, le-ltb number cpus g, le-ltb number rootPd h, eq-eqb number rootPd e) (two-words PD root)
 
       module _ (p : number ≡ rootPd → ⊥) where
-        pub ec-words : number ≡ rootEc → word (fiveWords EC root 0 0 0) ≡ word (bootRecord number)
+        pub ec-words : number ≡ rootEc → word (fiveWords EC root 0 0 0) ≡ word (bootRecord record-number)
         unfolding bootRecord
         ec-words e =
-            rw (le-ltb number cpus g, le-ltb number rootPd h, ne-eqb number rootPd p, eq-eqb number rootEc e) (two-words EC root)
+            rw (← is-number, le-ltb number cpus g, le-ltb number rootPd h, ne-eqb number rootPd p, eq-eqb number rootEc e) (two-words EC root)
 
         module _ (q : number ≡ rootEc → ⊥) where
-          pub sc-words : number ≡ rootSc → word (fiveWords SC rootEc rootPriority rootQuantum 0) ≡ word (bootRecord number)
+          pub sc-words : number ≡ rootSc → word (fiveWords SC rootEc rootPriority rootQuantum 0) ≡ word (bootRecord record-number)
           unfolding bootRecord
           sc-words e =
               rw (
+                ← is-number,
                 le-ltb number cpus g,
                 le-ltb number rootPd h,
                 ne-eqb number rootPd p,
@@ -48,10 +56,11 @@ module _ (number : ℕ) where
               )
               (four-words SC rootEc rootPriority rootQuantum)
 
-          pub free-words : (number ≡ rootSc → ⊥) → word (fiveWords free 0 0 0 0) ≡ word (bootRecord number)
+          pub free-words : (number ≡ rootSc → ⊥) → word (fiveWords free 0 0 0 0) ≡ word (bootRecord record-number)
           unfolding bootRecord
           free-words n =
               rw (
+                ← is-number,
                 le-ltb number cpus g,
                 le-ltb number rootPd h,
                 ne-eqb number rootPd p,
@@ -61,43 +70,82 @@ module _ (number : ℕ) where
               (short-words [] 5)
 
 -- the capability for a record
-pub object-cap : (number kind first second third fourth most : ℕ) (cap : Cap) → word (fiveWords kind first second third fourth) ≡ word (bootRecord number) →
-    most ≡ greatest object kind → cap ≡ parentless number most → cap ≡ bootObject number
-object-cap number kind first second third fourth most cap is-row is-most is-cap =
-    let is-kind : kind ≡ word (bootRecord number) kindWord = ap (λ (row : ℕ → ℕ). row kindWord) is-row in
-    is-cap ∙ (rw (is-most, is-kind))
+pub object-cap : (record-number number kind first second third fourth most : ℕ) (cap : Cap) →
+    word (fiveWords kind first second third fourth) ≡ word (bootRecord record-number) → number ≡ record-number → most ≡ greatest object kind →
+    cap ≡ parentless number most → cap ≡ bootObject record-number
+object-cap record-number number kind first second third fourth most cap is-row is-number is-most is-cap =
+    let is-kind : kind ≡ word (bootRecord record-number) kindWord = ap (λ (row : ℕ → ℕ). row kindWord) is-row in
+    is-cap ∙ (rw (is-most, is-number, is-kind))
 
 -- a selector that passes the code's test of the root's selectors is no lower than the first of them
-pub selector-from : (space selector first past : ℕ) → (eqb space object && leb first selector && ltb selector past) ≡ true → first ≤ selector
-selector-from space selector first past t =
-    leb-true first selector
-    (and-right (eqb space object) (leb first selector) (and-left (eqb space object && leb first selector) (ltb selector past) t))
+pub selector-from : (selector first past : ℕ) → (leb first selector && ltb selector past) ≡ true → first ≤ selector
+selector-from selector first past t = leb-true first selector (and-left (leb first selector) (ltb selector past) t)
 
--- the capabilities of the hypervisor and of the root, by a selector as the code reads it
-module _ (space selector number : ℕ) (cap : Cap) (is-number : number ≡ selector) where
-  pub hypervisor-resource : (most : ℕ) → space < object → most ≡ greatest space free → cap ≡ parentless number most → cap ≡ hypervisorCap space selector
-  unfolding hypervisorCap
-  hypervisor-resource most l is-most e = rw (lt-ltb space object l) (rw (is-most, is-number) at e)
+-- the objects of the hypervisor and of the root, by a selector's number as the code reads it
+module _ (selector number : ℕ) (found : FoundObject) (is-number : number ≡ selector) where
+  pub hypervisor-holds : number < rootPd → found ≡ numbered number → found ≡ hypervisorObject selector
+  unfolding hypervisorObject
+  hypervisor-holds l e = rw (← is-number, lt-ltb number rootPd l) e
 
-  pub hypervisor-object : object ≤ space → number < rootPd → cap ≡ bootObject number → cap ≡ hypervisorCap space selector
-  unfolding hypervisorCap
-  hypervisor-object g l e = rw (le-ltb space object g, ← is-number, lt-ltb number rootPd l) e
-
-  pub hypervisor-null : object ≤ space → rootPd ≤ number → cap ≡ nothing → cap ≡ hypervisorCap space selector
-  unfolding hypervisorCap
-  hypervisor-null g l e = rw (le-ltb space object g, ← is-number, le-ltb number rootPd l) e
+  pub hypervisor-holds-none : rootPd ≤ number → found ≡ Beyond → found ≡ hypervisorObject selector
+  unfolding hypervisorObject
+  hypervisor-holds-none l e = rw (← is-number, le-ltb number rootPd l) e
 
   -- the code's test of the root's selectors
   abbrev holdsRoot : Bool
-  holdsRoot = eqb space object && leb exc number && ltb number (exc + rootObjects)
+  holdsRoot = leb exc number && ltb number (exc + rootObjects)
 
-  pub root-object : holdsRoot ≡ true → cap ≡ bootObject (rootPd + (number - exc)) → cap ≡ rootCap space selector
-  unfolding rootCap
-  root-object t e = rw (← is-number, t) e
+  pub root-holds : holdsRoot ≡ true → found ≡ numbered (rootPd + (number - exc)) → found ≡ rootObject selector
+  unfolding rootObject
+  root-holds t e = rw (← is-number, t) e
 
-  pub root-null : holdsRoot ≡ false → cap ≡ nothing → cap ≡ rootCap space selector
+  pub root-holds-none : holdsRoot ≡ false → found ≡ Beyond → found ≡ rootObject selector
+  unfolding rootObject
+  root-holds-none f e = rw (← is-number, f) e
+
+-- what a place holds by its object
+pub held-object : (object : ObjectNumber) (found : FoundObject) (cap : Cap) → found ≡ Numbered object → cap ≡ bootObject (object .0) → cap ≡ heldCap found
+unfolding heldCap
+held-object object found cap is-found e = rw is-found e
+
+pub held-none : (found : FoundObject) (cap : Cap) → found ≡ Beyond → cap ≡ nothing → cap ≡ heldCap found
+unfolding heldCap
+held-none found cap is-found e = rw is-found e
+
+held-numbered : (number : ℕ) → number < records → heldCap (numbered number) ≡ bootObject number
+unfolding heldCap
+held-numbered number l = rw (numbered-so number l)
+
+-- the capabilities of the hypervisor and of the root
+module _ (space selector : ℕ) (cap : Cap) where
+  pub hypervisor-resource : (number most : ℕ) → number ≡ selector → space < object → most ≡ greatest space free → cap ≡ parentless number most →
+      cap ≡ hypervisorCap space selector
+  unfolding hypervisorCap
+  hypervisor-resource number most is-number l is-most e = rw (lt-ltb space object l) (rw (is-most, is-number) at e)
+
+  pub hypervisor-held : (found : FoundObject) → object ≤ space → found ≡ hypervisorObject selector → cap ≡ heldCap found → cap ≡ hypervisorCap space selector
+  unfolding hypervisorCap hypervisorObject heldCap
+  hypervisor-held found g is-found e =
+      rw (le-ltb space object g)
+      (cases (ltb selector rootPd)
+      (λ (t : ltb selector rootPd ≡ true).
+      let small : selector < records = omega (arith, ltb-true selector rootPd t) in rw t (rw (is-found, t, held-numbered selector small) at e))
+      (λ (f : ltb selector rootPd ≡ false). rw f (rw (is-found, f) at e)))
+
+  pub root-elsewhere : (space ≡ object → ⊥) → cap ≡ nothing → cap ≡ rootCap space selector
   unfolding rootCap
-  root-null f e = rw (← is-number, f) e
+  root-elsewhere n e = rw (ne-eqb space object n) e
+
+  pub root-held : (found : FoundObject) → space ≡ object → found ≡ rootObject selector → cap ≡ heldCap found → cap ≡ rootCap space selector
+  unfolding rootCap rootObject heldCap
+  root-held found is-object is-found e =
+      let test = leb exc selector && ltb selector (exc + rootObjects) in
+      rw (eq-eqb space object is-object)
+      (cases test
+      (λ (t : test ≡ true).
+      let small : rootPd + (selector - exc) < records = omega (arith, ltb-true selector (exc + rootObjects) (and-right (leb exc selector) (ltb selector (exc + rootObjects)) t)) in
+      rw t (rw (is-found, t, held-numbered (rootPd + (selector - exc)) small) at e))
+      (λ (f : test ≡ false). rw f (rw (is-found, f) at e)))
 
 -- the capability of a place, by its domain, space and selector as the code reads them
 module _ (place domain : ℕ) (cap : Cap) (is-domain : domain ≡ domainOf place) where

@@ -62,7 +62,7 @@ next-place number place cap table after below small is-place is-cap is-after =
     }
 
 pub next-record : (number object kind first second third fourth : ℕ) (table after : List ℕ) → RecordsBelow number table → number < records →
-    object ≡ number → word (fiveWords kind first second third fourth) ≡ word (bootRecord number) →
+    object ≡ number → word (fiveWords kind first second third fourth) ≡ word (bootRecord object) →
     after ≡ recordTable (put (objectAt table) object (word (fiveWords kind first second third fourth))) → RecordsBelow (number + 1) after
 next-record number object kind first second third fourth table after below small is-object is-row is-after =
     let row = word (fiveWords kind first second third fourth) in
@@ -76,7 +76,7 @@ next-record number object kind first second third fourth table after below small
       filled =
           λ r l.
           rw (stored, object-at-table objects ends)
-          (put-below (objectAt table) (λ r. word (bootRecord r)) number row (below .filled) is-row r l);
+          (put-below (objectAt table) (λ r. word (bootRecord r)) number row (below .filled) (rw is-object at is-row) r l);
     }
 
 -- tables that are filled whole are boot's

@@ -6,7 +6,9 @@ ghost use Rattle.interface.specs.Boot.{bootRecord, bootObject, hypervisorCap, r
 ghost use Rattle.interface.specs.Outcomes.{Booted};
 ghost use Rattle.places.specs.Table.{Sized as SizedPlaces};
 ghost use Rattle.objects.specs.Records.{Sized as SizedObjects, fiveWords};
+ghost use Rattle.boot.specs.Held.{hypervisorObject, rootObject, heldCap};
 use descriptor::Cap;
+use descriptor::FoundObject;
 use descriptor::ObjectNumber;
 use descriptor::Place;
 use descriptor::Reply;
@@ -49,9 +51,10 @@ const OBJECT_TABLE_WORDS: usize = sizes::RECORD_WORDS * sizes::RECORDS as usize;
 struct Words(u32, u32, u32, u32, u32);
 
 // The words of a record at boot.
-fn boot_record(number: u32) -> Words
-    ensures { λ r. ⌜ word (fiveWords (r .0) (r .1) (r .2) (r .3) (r .4)) ≡ word (bootRecord number) ⌝ }
+fn boot_record(object: ObjectNumber) -> Words
+    ensures { λ r. ⌜ word (fiveWords (r .0) (r .1) (r .2) (r .3) (r .4)) ≡ word (bootRecord (object .0)) ⌝ }
 {
+    let number = object.number();
     if number < objects::CPUS {
         return Words(objects::SC, NO_EC, 0, 0, 0);
     }
@@ -77,40 +80,70 @@ fn null_cap() -> Cap
     places::without_parent(0, 0)
 }
 
-// The capability for a record of boot.
-fn boot_object(number: u32) -> Cap
-    ensures { λ r. ⌜ r ≡ bootObject number ⌝ }
+// The capability for an object of boot.
+fn boot_object(object: ObjectNumber) -> Cap
+    ensures { λ r. ⌜ r ≡ bootObject (object .0) ⌝ }
 {
-    let words = boot_record(number);
+    let words = boot_record(object);
     places::without_parent(
-        number,
+        object.number(),
         objects::greatest_permissions(sizes::OBJECT, words.0),
     )
 }
 
-// What domain 0 holds at boot.
+// What a place holds at boot by its object, if it has one.
+fn held(found: FoundObject) -> Cap
+    ensures { λ r. ⌜ r ≡ heldCap found ⌝ }
+{
+    match found {
+        FoundObject::Numbered(object) => boot_object(object),
+        FoundObject::Beyond => null_cap(),
+    }
+}
+
+// The object that domain 0 holds at an object selector at boot, if it holds one: selectors and objects are numbered alike there.
+fn hypervisor_object(selector: Selector) -> FoundObject
+    ensures { λ r. ⌜ r ≡ hypervisorObject (selector .0) ⌝ }
+{
+    let number = selector.number();
+    if number < ROOT_PD {
+        return ObjectNumber::found(number);
+    }
+    FoundObject::Beyond
+}
+
+// The object that the root holds at an object selector at boot, if it holds one: its PD, EC and SC, from EXC on.
+fn root_object(selector: Selector) -> FoundObject
+    ensures { λ r. ⌜ r ≡ rootObject (selector .0) ⌝ }
+{
+    let number = selector.number();
+    if (EXC <= number) & (number < EXC + ROOT_OBJECTS) {
+        return ObjectNumber::found(ROOT_PD + (number - EXC));
+    }
+    FoundObject::Beyond
+}
+
+// What domain 0 holds at boot: the page or the port of each selector's number, and its objects.
 fn hypervisor_cap(space: u32, selector: Selector) -> Cap
     ensures { λ r. ⌜ r ≡ hypervisorCap space (selector .0) ⌝ }
 {
-    let number = selector.number();
     if space < sizes::OBJECT {
-        return places::without_parent(number, objects::greatest_permissions(space, objects::FREE));
+        return places::without_parent(
+            selector.number(),
+            objects::greatest_permissions(space, objects::FREE),
+        );
     }
-    if number < ROOT_PD {
-        return boot_object(number);
-    }
-    null_cap()
+    held(hypervisor_object(selector))
 }
 
 // What the root holds at boot.
 fn root_cap(space: u32, selector: Selector) -> Cap
     ensures { λ r. ⌜ r ≡ rootCap space (selector .0) ⌝ }
 {
-    let number = selector.number();
-    if (space == sizes::OBJECT) & (EXC <= number) & (number < EXC + ROOT_OBJECTS) {
-        return boot_object(ROOT_PD + (number - EXC));
+    if space != sizes::OBJECT {
+        return null_cap();
     }
-    null_cap()
+    held(root_object(selector))
 }
 
 // What a place holds at boot.
@@ -133,7 +166,7 @@ fn fill_places(table: &mut [u32])
     ensures { λ r. ⌜ now (table .exit) ≡ capTable bootCap ⌝ }
 {
     for number in 0..sizes::PLACES {
-        let place = Place::nth(number);
+        let place = Place::counted(number);
         places::store(table, place, boot_cap(place));
     }
 }
@@ -144,16 +177,9 @@ fn fill_objects(table: &mut [u32])
     ensures { λ r. ⌜ now (table .exit) ≡ recordTable (λ number. word (bootRecord number)) ⌝ }
 {
     for number in 0..sizes::RECORDS {
-        let words = boot_record(number);
-        objects::make(
-            table,
-            ObjectNumber::nth(number),
-            words.0,
-            words.1,
-            words.2,
-            words.3,
-            words.4,
-        );
+        let object = ObjectNumber::counted(number);
+        let words = boot_record(object);
+        objects::make(table, object, words.0, words.1, words.2, words.3, words.4);
     }
 }
 

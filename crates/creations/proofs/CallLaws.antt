@@ -131,13 +131,14 @@ module _ {places objects : List ℕ} {caller domain selector pd : ℕ} {found : 
     pub sc-refused : {reply : Reply} → found ≡ Refused reply → Runs createSc c (tables places objects) (tables places objects) reply
     sc-refused = refused sc-follows
 
-    pub sc-granted : {number : ObjectNumber} {cap : Cap} {placesAfter objectsAfter : List ℕ} → found ≡ Takes number → cap ≡ capAt places bound →
+    pub sc-granted : {number : ObjectNumber} {cap : Cap} {ec-number : ℕ} {placesAfter objectsAfter : List ℕ} → found ≡ Takes number → cap ≡ capAt places bound →
+        ec-number ≡ cap .resource →
         Created (tables places objects) (tables placesAfter objectsAfter) domain selector (number .0)
-        (fiveWords SC (cap .resource) (qpd % 2 ^ 8) (qpd / 2 ^ 12) 0) →
+        (fiveWords SC ec-number (qpd % 2 ^ 8) (qpd / 2 ^ 12) 0) →
         Runs createSc c (tables places objects) (tables placesAfter objectsAfter) (Success 0)
-    sc-granted e loaded stored =
+    sc-granted e loaded is-named stored =
         granted sc-follows e (hands-none places) stored
-        (rw (loaded, is-bound, in-domain, sym is-caller, sym is-third, is-fourth, priority-low qpd, base-high qpd fits)
+        (rw (is-named, loaded, is-bound, in-domain, sym is-caller, sym is-third, is-fourth, priority-low qpd, base-high qpd fits)
         (four-words SC (objectIn (view places objects) (ecPlace (view places objects) c)) (qpd % 2 ^ 8) (qpd / 2 ^ 12)))
 
   -- CREATE_PT
@@ -153,12 +154,13 @@ module _ {places objects : List ℕ} {caller domain selector pd : ℕ} {found : 
     pub pt-refused : {reply : Reply} → found ≡ Refused reply → Runs createPt c (tables places objects) (tables places objects) reply
     pt-refused = refused pt-follows
 
-    pub pt-granted : {number : ObjectNumber} {cap : Cap} {placesAfter objectsAfter : List ℕ} → found ≡ Takes number → cap ≡ capAt places bound →
-        Created (tables places objects) (tables placesAfter objectsAfter) domain selector (number .0) (fiveWords PT (cap .resource) mtd ip identifier) →
+    pub pt-granted : {number : ObjectNumber} {cap : Cap} {ec-number : ℕ} {placesAfter objectsAfter : List ℕ} → found ≡ Takes number → cap ≡ capAt places bound →
+        ec-number ≡ cap .resource →
+        Created (tables places objects) (tables placesAfter objectsAfter) domain selector (number .0) (fiveWords PT ec-number mtd ip identifier) →
         Runs createPt c (tables places objects) (tables placesAfter objectsAfter) (Success 0)
-    pt-granted e loaded stored =
+    pt-granted e loaded is-named stored =
         granted pt-follows e (hands-none places) stored
-        (rw (loaded, is-bound, in-domain, sym is-caller, sym is-third, sym is-fourth, sym is-fifth, sym is-sixth))
+        (rw (is-named, loaded, is-bound, in-domain, sym is-caller, sym is-third, sym is-fourth, sym is-fifth, sym is-sixth))
 
   -- CREATE_SM
   module _ {count : ℕ} (is-third : c .third ≡ count)

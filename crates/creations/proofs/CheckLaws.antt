@@ -1,19 +1,22 @@
 -- Each way out of the checks is that of the rule.
 use Prim.Native.Nat.{ℕ, _<_}
-use mathlib.Core.Path.{_≡_, _∙_}
+use mathlib.Core.Path.{_≡_, sym, _∙_}
 use mathlib.Core.Bool.{Bool, true, false, not, _&&_}
 use mathlib.Core.List.{[], _∷_, _++_}
 use lib.Dec.{ltb}
-use borrow.Author.Tests.{ltb-true, not-true, not-false}
+use borrow.Author.Tests.{lt-ltb, le-ltb, not-true, not-false}
 use Rattle.words.specs.Sizes.{records}
 use Rattle.descriptor.specs.declared.ObjectNumber.{ObjectNumber}
+use Rattle.descriptor.specs.declared.FoundObject.{FoundObject}
+use Rattle.descriptor.specs.declared.FoundObject.the-variants.{Numbered, Beyond}
+use Rattle.descriptor.specs.Numbers.{numbered}
+use Rattle.descriptor.proofs.DescriptorLaws.{numbered-past, numbered-inside}
 use Rattle.descriptor.specs.declared.Reply.the-variants.{BadCap, BadCpu, BadPar, NoRoom}
 use Rattle.interface.specs.Places.{Cap, State, live, PD, createBit, objectPlace, permitted}
 use Rattle.interface.specs.Effects.{make, hold}
 use Rattle.interface.specs.Verdicts.{Call, Verdict, grant, require_else_then_, callerDomain}
 use Rattle.interface.specs.Creations.{newPlace, pdPlace, freeRecord, creation}
 use Rattle.interface.specs.Creations.{Creation as Rule}
-use Rattle.interface.proofs.BoolLaws.{and-left, and-right}
 use Rattle.creations.specs.declared.Checked.the-variants.{Takes, Refused}
 use Rattle.creations.specs.Creating.{Judged, passed, failed}
 
@@ -35,15 +38,7 @@ pub record GoesOn (s : State) (c : Call) (rule : Rule) (next : Verdict) : Type 0
   says : creation s c rule ≡ next
   by-pd : permitted s (pdPlace s c) PD (createBit (rule .kind)) ≡ true
 
--- a free record that is found is one of the records
-pub room-small : (free : ℕ) (left : Bool) → not (ltb free records && left) ≡ false → free < records
-room-small free left f = ltb-true free records (and-left (ltb free records) left (not-false (ltb free records && left) f))
-
--- whether there is room, whether the new place is live, and whether the PD's capability has a bit, as the code finds them
-room-is : (s : State) (left : Bool) {free : ℕ} {found : Bool} → free ≡ freeRecord s → (ltb free records && left) ≡ found →
-    (ltb (freeRecord s) records && left) ≡ found
-room-is s left is-free e = rw is-free at e
-
+-- whether the new place is live, and whether the PD's capability has a bit, as the code finds them
 new-is : (s : State) (c : Call) {domain selector place : ℕ} {cap : Cap} {alive : Bool} → callerDomain s c ≡ domain → c .first ≡ selector →
     place ≡ objectPlace domain selector → cap ≡ s .caps place → alive ≡ live cap → live (s .caps (newPlace s c)) ≡ alive
 new-is s c in-domain is-first is-place loaded is-alive = rw (in-domain, is-first, is-alive, loaded, is-place)
@@ -111,22 +106,34 @@ module _ {s : State} {c : Call} {rule : Rule} (g : GoesOn s c rule (ownChecks s 
               by-pd = g .by-pd;
             }
 
-        module _ {free : ℕ} (is-free : free ≡ freeRecord s) where
-          -- no record is free, or no domain is left
-          pub no-room : not (ltb free records && rule .domain-left) ≡ true → Judged s c rule (Refused NoRoom)
-          no-room t =
-              failed NoRoom (goes-last .says ∙ (rw (room-is s (rule .domain-left) is-free (not-true (ltb free records && rule .domain-left) t))))
+        module _ {found : FoundObject} (is-free : found ≡ numbered (freeRecord s)) where
+          -- no record is free
+          pub no-record : found ≡ Beyond → Judged s c rule (Refused NoRoom)
+          no-record e =
+              failed NoRoom (goes-last .says ∙ (rw (le-ltb (freeRecord s) records (numbered-past (freeRecord s) (sym is-free ∙ e)))))
 
-          -- the object takes the lowest free record
-          pub has-room : {number : ObjectNumber} → not (ltb free records && rule .domain-left) ≡ false → number .0 ≡ free →
-              Judged s c rule (Takes number)
-          has-room {number} f is-number =
-              let room = not-false (ltb free records && rule .domain-left) f in
-              passed number
-              (record {
-                grants = goes-last .says ∙ (rw (room-is s (rule .domain-left) is-free room, is-number, is-free));
-                is-record = rw is-number (room-small free (rule .domain-left) f);
-                by-pd = g .by-pd;
-                parameters = not-false (rule .parameters-good) good;
-                domain-left = and-right (ltb free records) (rule .domain-left) room;
-              })
+          module _ {number : ObjectNumber} (is-number : found ≡ Numbered number) where
+            -- the lowest free record has the number found
+            lowest-is : (number .0 ≡ freeRecord s) × (freeRecord s < records)
+            lowest-is = numbered-inside (freeRecord s) number (sym is-free ∙ is-number)
+
+            -- no domain is left
+            pub no-domain : not (rule .domain-left) ≡ true → Judged s c rule (Refused NoRoom)
+            no-domain t =
+                failed NoRoom
+                (goes-last .says ∙ (rw (lt-ltb (freeRecord s) records (lowest-is .1), not-true (rule .domain-left) t)))
+
+            -- the object takes the lowest free record
+            pub has-room : not (rule .domain-left) ≡ false → Judged s c rule (Takes number)
+            has-room f =
+                passed number
+                (record {
+                  grants =
+                      goes-last .says ∙
+                      (rw (lt-ltb (freeRecord s) records (lowest-is .1), not-false (rule .domain-left) f, lowest-is .0));
+                  is-record = rw (lowest-is .0) (lowest-is .1);
+                  by-pd = g .by-pd;
+                  bindable = not-false (rule .bindable) bindable;
+                  parameters = not-false (rule .parameters-good) good;
+                  domain-left = not-false (rule .domain-left) f;
+                })

@@ -1,13 +1,13 @@
 -- Storing a new object takes the last steps of a rule, and so a function that goes by the checks runs its rule.
 use Prim.Native.Nat.{ℕ, _<_}
-use mathlib.Core.Path.{_≡_, refl, ap, _∙_}
+use mathlib.Core.Path.{_≡_, refl, sym, ap, _∙_}
 use mathlib.Core.List.{List, [], _∷_, _++_}
 use Rattle.words.specs.Sizes.{records}
 use Rattle.descriptor.specs.declared.ObjectNumber.{ObjectNumber}
 use Rattle.descriptor.specs.declared.Reply.{Reply}
 use Rattle.descriptor.specs.declared.Reply.the-variants.{Success}
 use Rattle.interface.specs.Basics.{word, put}
-use Rattle.interface.specs.Places.{Cap, State, Tables, PD, kindWord, domainWord, createBit, parentless, greatestOf, objectPlace, capAt, objectAt, capTable, recordTable, tables, view}
+use Rattle.interface.specs.Places.{Cap, State, Tables, PD, EC, kindWord, domainWord, createBit, parentless, greatestOf, objectPlace, permitted, capAt, objectAt, capTable, recordTable, tables, view}
 use Rattle.interface.specs.Effects.{Effect, make, hold, act, run}
 use Rattle.interface.specs.Verdicts.{Call, Verdict, refuse}
 use Rattle.interface.specs.Creations.{newPlace, creation}
@@ -75,7 +75,7 @@ module _ {places objects : List ℕ} {caller domain selector pd : ℕ} {new : Cr
   pub passes : {number : ObjectNumber} → found ≡ Takes number → Passes (view places objects) asking (ruleOf new [] []) (number .0)
   passes e = passed-is (rw e at (judged asking [] [] refl refl refl))
 
-  -- the record that the object takes is one of the records, and so is what the PD's selector names
+  -- the record that the object takes is one of the records, and so is what the PD's selector names, and the EC's where the object is bound to one
   pub takes-small : {number : ObjectNumber} → found ≡ Takes number → number .0 < records
   takes-small e = passes e .is-record
 
@@ -83,6 +83,10 @@ module _ {places objects : List ℕ} {caller domain selector pd : ℕ} {new : Cr
       named ≡ cap .resource → named < records
   pd-small e is-place loaded is-named =
       rw is-named (named-record called pd PD (createBit (new .kind)) in-domain is-place (rw (is-place, in-domain) (passes e .by-pd)) loaded)
+
+  pub bound-small : {number : ObjectNumber} {place : ℕ} {cap : Cap} (ec bit : ℕ) → found ≡ Takes number → place ≡ objectPlace domain ec →
+      new .bindable ≡ permitted (view places objects) place EC bit → cap ≡ capAt places place → cap .resource < records
+  bound-small ec bit e is-place is-may loaded = named-record called ec EC bit in-domain is-place (sym is-may ∙ passes e .bindable) loaded
 
 -- a call whose rule is that of a creation with some words and delegations, and what the checks found of it
 pub record Follows (verdict : State → Call → Verdict) (c : Call) (places objects : List ℕ) (domain selector : ℕ) (found : Checked) (words : List ℕ)

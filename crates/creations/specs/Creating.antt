@@ -38,6 +38,7 @@ pub record Passes (s : State) (c : Call) (rule : Rule) (number : ℕ) : Type 0 w
   pub grants : creation s c rule ≡ grant 0 (make number (rule .words) ∷ rule .delegations ++ (hold (newPlace s c) number ∷ [])) (c .target)
   pub is-record : number < records
   pub by-pd : permitted s (pdPlace s c) PD (createBit (rule .kind)) ≡ true
+  pub bindable : rule .bindable ≡ true
   pub parameters : rule .parameters-good ≡ true
   pub domain-left : rule .domain-left ≡ true
 

@@ -13,6 +13,7 @@ ghost use Rattle.capabilities.specs.Callers.{Called};
 ghost use Rattle.creations.specs.Creating.{Decides, Created, Hands, Initial};
 use descriptor::Cap;
 use descriptor::Descriptor;
+use descriptor::FoundObject;
 use descriptor::ObjectNumber;
 use descriptor::Place;
 use descriptor::Range;
@@ -74,11 +75,13 @@ fn check(
     if !new.parameters_good {
         return Checked::Refused(Reply::BadPar);
     }
-    let free = objects::free_record(objects);
-    if !((free < sizes::RECORDS) & new.domain_left) {
+    let FoundObject::Numbered(number) = objects::free_record(objects) else {
+        return Checked::Refused(Reply::NoRoom);
+    };
+    if !new.domain_left {
         return Checked::Refused(Reply::NoRoom);
     }
-    Checked::Takes(ObjectNumber::nth(free))
+    Checked::Takes(number)
 }
 
 // Stores a new object in its record, and gives its place the greatest permissions and no parent.
@@ -211,9 +214,10 @@ pub fn create_ec(
     match check(places, objects, domain, selector, pd, new) {
         Checked::Refused(reply) => reply,
         Checked::Takes(number) => {
-            let named = ObjectNumber::nth(
-                places::load(places, capabilities::object_place(domain, pd)).resource,
-            );
+            let named = ObjectNumber::named_by(places::load(
+                places,
+                capabilities::object_place(domain, pd),
+            ));
             let home = objects::load(objects, named, objects::DOMAIN);
             create(
                 places,
@@ -259,7 +263,7 @@ pub fn create_sc(
     match check(places, objects, domain, selector, pd, new) {
         Checked::Refused(reply) => reply,
         Checked::Takes(number) => {
-            let named = places::load(places, bound).resource;
+            let named = ObjectNumber::named_by(places::load(places, bound));
             create(
                 places,
                 objects,
@@ -267,7 +271,7 @@ pub fn create_sc(
                 selector,
                 number,
                 objects::SC,
-                named,
+                named.number(),
                 priority,
                 quantum,
                 0,
@@ -304,7 +308,7 @@ pub fn create_pt(
     match check(places, objects, domain, selector, pd, new) {
         Checked::Refused(reply) => reply,
         Checked::Takes(number) => {
-            let named = places::load(places, bound).resource;
+            let named = ObjectNumber::named_by(places::load(places, bound));
             create(
                 places,
                 objects,
@@ -312,7 +316,7 @@ pub fn create_pt(
                 selector,
                 number,
                 objects::PT,
-                named,
+                named.number(),
                 mtd,
                 ip,
                 identifier,

@@ -1,11 +1,14 @@
 // The types of the interface: selector, place and object number, the range descriptor, and the reply.
 //
 // Selector, place and object number are a one-number struct each, so that none is taken for another: their numbers are private to this crate, and its
-// conversions are the only way across.
+// conversions are the only way across. Each conversion says what its number is.
 ghost use mathlib.Core.Path.{_≡_};
-ghost use Prim.Native.Nat.{_+_, _^_, _%_, _<_, _≤_};
-ghost use Rattle.words.specs.Sizes.{domains, spaces, object, selectors, places, records, placeOf, domainOf, spaceOf, selectorOf};
-ghost use Rattle.descriptor.specs.Numbers.{placed, numbered};
+ghost use mathlib.Core.Bool.{_&&_};
+ghost use Prim.Native.Nat.{_+_, _*_, _^_, _%_, _<_, _≤_};
+ghost use lib.Dec.{eqb, leb, ltb};
+ghost use Rattle.words.specs.Sizes.{domains, spaces, object, selectors, stride, places, placeWords, records, recordWords, placeOf, domainOf, spaceOf, selectorOf};
+ghost use Rattle.words.specs.Ranges.{rounded};
+ghost use Rattle.descriptor.specs.Numbers.{selected, placed, linkOf, linked, numbered};
 ghost use Rattle.descriptor.specs.Descriptors.{kept, describe, reading, matched, wellFormed, Proper};
 ghost use Rattle.descriptor.specs.Replies.{statusOf, answerOf};
 use words::ranges;
@@ -19,7 +22,13 @@ pub struct Place(u32);
 
 pub struct ObjectNumber(u32);
 
-// A place, if a word is the number of one.
+// A selector of a space, if a word names one.
+pub enum FoundSelector {
+    Named(Selector),
+    Outside,
+}
+
+// A place, if a word is the number of one or leads to one.
 pub enum FoundPlace {
     At(Place),
     Nowhere,
@@ -39,6 +48,20 @@ impl Selector {
         Selector(word % sizes::SELECTORS)
     }
 
+    // The selector that a word names in a space: object selectors wrap, and a page's or a port's is below the number of selectors of its space.
+    pub fn of(space: u32, word: u32) -> FoundSelector
+        ensures { λ r. ⌜ r ≡ selected space word ⌝ }
+    {
+        if space == sizes::OBJECT {
+            return FoundSelector::Named(Selector(word % sizes::SELECTORS));
+        }
+        if sizes::SELECTORS <= word {
+            return FoundSelector::Outside;
+        }
+        FoundSelector::Named(Selector(word))
+    }
+
+    // The selector as a word of the interface: a descriptor's base, the page or port that domain 0 holds there, what is printed.
     pub fn number(self) -> u32
         ensures { λ r. ⌜ r ≡ self .0 ⌝ }
     {
@@ -47,8 +70,8 @@ impl Selector {
 }
 
 impl Place {
-    // The place of a number that is below the number of places.
-    pub fn nth(number: u32) -> Place
+    // The place that a loop over the places has counted to: the one conversion of such a count.
+    pub fn counted(number: u32) -> Place
         requires { ⌜ number < places ⌝ }
         ensures { λ r. ⌜ r .0 ≡ number ⌝ }
     {
@@ -63,6 +86,14 @@ impl Place {
         Place(domain * sizes::STRIDE + sizes::space_start(space) + selector.0)
     }
 
+    // The first place of a domain.
+    pub fn first_of(domain: u32) -> Place
+        requires { ⌜ domain < domains ⌝ }
+        ensures { λ r. ⌜ r .0 ≡ domain * stride ⌝ }
+    {
+        Place(domain * sizes::STRIDE)
+    }
+
     // The place of a word's number, if there is one.
     pub fn found(word: u32) -> FoundPlace
         ensures { λ r. ⌜ r ≡ placed word ⌝ }
@@ -74,10 +105,67 @@ impl Place {
         }
     }
 
+    // The link word that leads to the place: a child's parent word.
+    pub fn link(self) -> u32
+        requires { ⌜ self .0 < places ⌝ }
+        ensures { λ r. ⌜ r ≡ linkOf (self .0) ⌝ }
+    {
+        self.0 + 1
+    }
+
+    // The place that a link word leads to, if it leads to one.
+    pub fn linked(word: u32) -> FoundPlace
+        ensures { λ r. ⌜ r ≡ linked word ⌝ }
+    {
+        if (word == 0) | (sizes::PLACES < word) {
+            return FoundPlace::Nowhere;
+        }
+        FoundPlace::At(Place(word - 1))
+    }
+
+    // The place as a word of the interface, a list's word of a census or where a fault is, and as the number of the bit that marks it.
     pub fn number(self) -> u32
         ensures { λ r. ⌜ r ≡ self .0 ⌝ }
     {
         self.0
+    }
+
+    // Where the place's words begin in the place table.
+    pub fn words_start(self) -> usize
+        ensures { λ r. ⌜ r ≡ self .0 * placeWords ⌝ }
+    {
+        (self.0 as usize) * sizes::PLACE_WORDS
+    }
+
+    // The place at an offset from this one.
+    pub fn after(self, offset: u32) -> Place
+        requires { ⌜ self .0 + offset < places ⌝ }
+        ensures { λ r. ⌜ r .0 ≡ self .0 + offset ⌝ }
+    {
+        Place(self.0 + offset)
+    }
+
+    // The place where the range of an order around this one begins: a space begins at a multiple of its size, so places round as selectors do.
+    pub fn rounded_down(self, order: u32) -> Place
+        requires { ⌜ order < 32 ⌝ }
+        ensures { λ r. ⌜ r .0 ≡ rounded order (self .0) ⌝ }
+    {
+        Place(ranges::round_down(order, self.0))
+    }
+
+    // Whether the place comes before another.
+    pub fn is_before(self, other: Place) -> bool
+        ensures { λ r. ⌜ r ≡ ltb (self .0) (other .0) ⌝ }
+    {
+        self.0 < other.0
+    }
+
+    // Whether the place is among as many places as `size` says from `first` on.
+    pub fn is_among(self, first: Place, size: u32) -> bool
+        requires { ⌜ first .0 + size ≤ places ⌝ }
+        ensures { λ r. ⌜ r ≡ (leb (first .0) (self .0) && ltb (self .0) (first .0 + size)) ⌝ }
+    {
+        (first.0 <= self.0) & (self.0 < first.0 + size)
     }
 
     pub fn domain(self) -> u32
@@ -107,12 +195,28 @@ impl Place {
 }
 
 impl ObjectNumber {
-    // The object of a number that is below the number of records.
-    pub fn nth(number: u32) -> ObjectNumber
+    // The object whose record a loop over the records has counted to: the one conversion of such a count.
+    pub fn counted(number: u32) -> ObjectNumber
         requires { ⌜ number < records ⌝ }
         ensures { λ r. ⌜ r .0 ≡ number ⌝ }
     {
         ObjectNumber(number)
+    }
+
+    // The object that an object capability is for: its resource.
+    pub fn named_by(cap: Cap) -> ObjectNumber
+        requires { ⌜ cap .resource < records ⌝ }
+        ensures { λ r. ⌜ r .0 ≡ cap .resource ⌝ }
+    {
+        ObjectNumber(cap.resource)
+    }
+
+    // The EC that an SC or a PT is bound to, by the EC word of its record.
+    pub fn bound_by(ec_word: u32) -> ObjectNumber
+        requires { ⌜ «ec_word» < records ⌝ }
+        ensures { λ r. ⌜ r .0 ≡ «ec_word» ⌝ }
+    {
+        ObjectNumber(ec_word)
     }
 
     // The object number that a word is, if it is one.
@@ -126,10 +230,25 @@ impl ObjectNumber {
         }
     }
 
+    // The object number as a word of the interface: the resource of its capabilities, an EC word, or where a fault is.
     pub fn number(self) -> u32
         ensures { λ r. ⌜ r ≡ self .0 ⌝ }
     {
         self.0
+    }
+
+    // Where the object's words begin in the object table.
+    pub fn words_start(self) -> usize
+        ensures { λ r. ⌜ r ≡ self .0 * recordWords ⌝ }
+    {
+        (self.0 as usize) * sizes::RECORD_WORDS
+    }
+
+    // Whether two objects are the same.
+    pub fn is(self, other: ObjectNumber) -> bool
+        ensures { λ r. ⌜ r ≡ eqb (self .0) (other .0) ⌝ }
+    {
+        self.0 == other.0
     }
 }
 

@@ -4,9 +4,14 @@ use mathlib.Core.Path.{_≡_, sym, _∙_}
 use native.Mathlib.Omega.{arith}
 use lib.Pow.{pow-pos}
 use borrow.Author.Tests.{eq-eqb}
-use Rattle.words.specs.Sizes.{io, object, spaces, selectors}
+use Rattle.words.specs.Sizes.{io, spaces, selectors}
+use Rattle.descriptor.specs.declared.Selector.{Selector}
+use Rattle.descriptor.specs.declared.FoundSelector.{FoundSelector}
+use Rattle.descriptor.specs.declared.FoundSelector.the-variants.{Named, Outside}
 use Rattle.descriptor.specs.declared.Range.{Range}
+use Rattle.descriptor.specs.Numbers.{selected}
 use Rattle.descriptor.specs.Descriptors.{Proper, describe}
+use Rattle.descriptor.proofs.DescriptorLaws.{selected-named, selected-none}
 
 -- one selector
 pub one-proper : (space selector : ℕ) → space < spaces → selector < selectors space → Proper (record { space = space; base = selector; order = 0; mask = 31 })
@@ -30,19 +35,24 @@ shutter-proper first is-aligned is-selector =
       mask-small = omega arith;
     }
 
--- a base that a selector is made of stays as it is
-wrapped-same : (space base order selector : ℕ) → selector ≡ base % selectors object → Proper (record { space = space; base = base; order = order; mask = 31 }) → selector ≡ base
-wrapped-same space base order selector is-selector proper =
-    let small : base < selectors object = omega (arith, proper .ends-inside, pow-pos order) in
-    omega (arith, is-selector, small)
+-- the base of a proper range names the selector of its number in the range's space
+module _ {space base order : ℕ} {found : FoundSelector} (is-found : found ≡ selected space base)
+    (proper : Proper (record { space = space; base = base; order = order; mask = 31 })) where
+  base-small : base < selectors space
+  base-small = omega (arith, proper .ends-inside, pow-pos order)
 
--- so that its range is as proper
-pub wrapped-proper : (space base order selector : ℕ) → selector ≡ base % selectors object → Proper (record { space = space; base = base; order = order; mask = 31 }) →
-    Proper (record { space = space; base = selector; order = order; mask = 31 })
-wrapped-proper space base order selector is-selector proper = rw (wrapped-same space base order selector is-selector proper) proper
+  pub never-outside : found ≡ Outside → ⊥
+  never-outside none = selected-none space base base-small (sym is-found ∙ none)
 
--- and its descriptor is the range's
-pub wrapped-describes : (space base order selector descriptor word : ℕ) → word ≡ descriptor → descriptor ≡ describe (record { space = space; base = selector; order = order; mask = 31 }) →
-    selector ≡ base % selectors object → Proper (record { space = space; base = base; order = order; mask = 31 }) → word ≡ describe (record { space = space; base = base; order = order; mask = 31 })
-wrapped-describes space base order selector descriptor word is-word described is-selector proper =
-    is-word ∙ rw (sym (wrapped-same space base order selector is-selector proper)) described
+  module _ {selector : Selector} (is-named : found ≡ Named selector) where
+    named-same : selector .0 ≡ base
+    named-same = selected-named space base selector base-small (sym is-found ∙ is-named)
+
+    -- so that its range is as proper
+    pub named-proper : Proper (record { space = space; base = selector .0; order = order; mask = 31 })
+    named-proper = rw named-same proper
+
+    -- and its descriptor is the range's
+    pub named-describes : {descriptor word : ℕ} → word ≡ descriptor → descriptor ≡ describe (record { space = space; base = selector .0; order = order; mask = 31 }) →
+        word ≡ describe (record { space = space; base = base; order = order; mask = 31 })
+    named-describes is-word described = is-word ∙ rw (sym named-same) described

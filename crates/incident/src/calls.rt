@@ -8,6 +8,7 @@ ghost use Rattle.interface.specs.Verdicts.{CREATE-PD, CREATE-EC, CREATE-PT, REV
 ghost use Rattle.interface.specs.Outcomes.{Answered, answered};
 ghost use Rattle.incident.specs.Story.{cpu, delegate, fromHypervisor, itemBlock, letter, question, windowBlock};
 use descriptor::Descriptor;
+use descriptor::FoundSelector;
 use descriptor::Reply;
 use descriptor::Selector;
 use words::sizes;
@@ -43,7 +44,10 @@ pub fn range(space: u32, base: u32, order: u32) -> u32
     requires { ⌜ Proper (record { space = space; base = base; order = order; mask = 31 }) ⌝ }
     ensures { λ r. ⌜ r ≡ describe (record { space = space; base = base; order = order; mask = 31 }) ⌝ }
 {
-    Descriptor::of(space, Selector::wrapped(base), order, ALL).word()
+    let FoundSelector::Named(selector) = Selector::of(space, base) else {
+        return Descriptor::NULL.word();
+    };
+    Descriptor::of(space, selector, order, ALL).word()
 }
 
 // A hypercall that sends no message.

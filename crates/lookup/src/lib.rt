@@ -38,13 +38,13 @@ fn is_uniform(places: &[u32], place: Place, order: u32) -> bool
     requires { ⌜ Sized (now places) × (place .0 < placeCount) × (order ≤ greatestOrder (spaceOf (place .0))) ⌝ }
     ensures { λ r. ⌜ r ≡ uniform (capAt (now (places .entry))) (place .0) order ⌝ }
 {
-    let first = ranges::round_down(order, place.number());
+    let first = place.rounded_down(order);
     let size = ranges::size(order);
     let permissions = places::load(places, place).permissions;
-    let resource = places::load(places, Place::nth(first)).resource;
+    let resource = places::load(places, first).resource;
     let mut offset = 0;
     while offset < size {
-        let cap = places::load(places, Place::nth(first + offset));
+        let cap = places::load(places, first.after(offset));
         if !continues(cap, permissions, resource, offset) {
             return false;
         }
@@ -68,7 +68,7 @@ fn largest_order(places: &[u32], place: Place) -> u32
     0
 }
 
-// The descriptor of the largest range around a range's base, or the null descriptor where nothing is held there. A space begins at a multiple of its size, so places round as selectors do.
+// The descriptor of the largest range around a range's base, or the null descriptor where nothing is held there.
 fn found(places: &[u32], domain: u32, range: Range) -> u32
     requires { ⌜ Sized (now places) × (domain < domains) × Proper range × ((p : ℕ) → p < placeCount → capAt (now places) p .permissions < 2 ^ 5) ⌝ }
     ensures { λ r. ⌜ ((objects : List ℕ) → r ≡ foundRange (view (now (places .entry)) objects) domain (Good range)) ⌝ }
@@ -80,7 +80,7 @@ fn found(places: &[u32], domain: u32, range: Range) -> u32
         return Descriptor::NULL.word();
     }
     let order = largest_order(places, base);
-    let first = Place::nth(ranges::round_down(order, base.number()));
+    let first = base.rounded_down(order);
     Descriptor::of(space, first.selector(), order, cap.permissions).word()
 }
 

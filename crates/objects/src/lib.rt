@@ -2,9 +2,11 @@
 ghost use mathlib.Core.Path.{_≡_};
 ghost use Prim.Native.Nat.{_<_};
 ghost use Rattle.words.specs.Sizes.{records, recordWords};
+ghost use Rattle.descriptor.specs.Numbers.{numbered};
 ghost use Rattle.interface.specs.Basics.{word, put};
 ghost use Rattle.interface.specs.Places.{kindWord, countWord, greatestOf, greatest, objectAt, recordTable};
 ghost use Rattle.objects.specs.Records.{Sized, lowestFree, pdCount, fiveWords};
+use descriptor::FoundObject;
 use descriptor::ObjectNumber;
 use words::sizes;
 
@@ -67,19 +69,18 @@ pub fn load(table: &[u32], number: ObjectNumber, index: usize) -> u32
     requires { ⌜ Sized (now table) × (number .0 < records) × (index < recordWords) ⌝ }
     ensures { λ r. ⌜ r ≡ objectAt (now (table .entry)) (number .0) index ⌝ }
 {
-    table[(number.number() as usize) * sizes::RECORD_WORDS + index]
+    table[number.words_start() + index]
 }
 
-// The kind of a record, or 0 for a number past the records.
-pub fn kind_at(table: &[u32], number: u32) -> u32
+// The kind of the object that a capability's resource names, or 0 for a resource past the records.
+pub fn kind_named(table: &[u32], resource: u32) -> u32
     requires { ⌜ Sized (now table) ⌝ }
-    ensures { λ r. ⌜ r ≡ objectAt (now (table .entry)) number kindWord ⌝ }
+    ensures { λ r. ⌜ r ≡ objectAt (now (table .entry)) resource kindWord ⌝ }
 {
-    if number < sizes::RECORDS {
-        table[(number as usize) * sizes::RECORD_WORDS]
-    } else {
-        0
-    }
+    let FoundObject::Numbered(number) = ObjectNumber::found(resource) else {
+        return 0;
+    };
+    load(table, number, KIND)
 }
 
 // Stores the words of a record.
@@ -95,7 +96,7 @@ pub fn make(
     requires { ⌜ Sized (now table) × (number .0 < records) ⌝ }
     ensures { λ r. ⌜ now (table .exit) ≡ recordTable (put (objectAt (now (table .entry))) (number .0) (word (fiveWords kind first second third fourth))) ⌝ }
 {
-    let at = (number.number() as usize) * sizes::RECORD_WORDS;
+    let at = number.words_start();
     table[at] = kind;
     table[at + 1] = first;
     table[at + 2] = second;
@@ -108,22 +109,23 @@ pub fn set_count(table: &mut [u32], number: ObjectNumber, value: u32)
     requires { ⌜ Sized (now table) × (number .0 < records) ⌝ }
     ensures { λ r. ⌜ now (table .exit) ≡ recordTable (put (objectAt (now (table .entry))) (number .0) (put (objectAt (now (table .entry)) (number .0)) countWord value)) ⌝ }
 {
-    table[(number.number() as usize) * sizes::RECORD_WORDS + COUNT] = value;
+    table[number.words_start() + COUNT] = value;
 }
 
-// The lowest free record, or the number of records where none is free.
-pub fn free_record(table: &[u32]) -> u32
+// The lowest free record, if one is free.
+pub fn free_record(table: &[u32]) -> FoundObject
     requires { ⌜ Sized (now table) ⌝ }
-    ensures { λ r. ⌜ r ≡ lowestFree (now (table .entry)) ⌝ }
+    ensures { λ r. ⌜ r ≡ numbered (lowestFree (now (table .entry))) ⌝ }
 {
     let mut number = 0u32;
     while number < sizes::RECORDS {
-        if kind_at(table, number) == FREE {
-            return number;
+        let record = ObjectNumber::counted(number);
+        if load(table, record, KIND) == FREE {
+            return FoundObject::Numbered(record);
         }
         number += 1;
     }
-    number
+    FoundObject::Beyond
 }
 
 // The number of PDs.
@@ -134,7 +136,7 @@ pub fn count_pds(table: &[u32]) -> u32
     let mut count = 0u32;
     let mut number = 0u32;
     while number < sizes::RECORDS {
-        if kind_at(table, number) == PD {
+        if load(table, ObjectNumber::counted(number), KIND) == PD {
             count += 1;
         }
         number += 1;

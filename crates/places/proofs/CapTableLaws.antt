@@ -105,23 +105,20 @@ given-end caps destination source mask ends small =
     either-way CapsEnd (fills caps destination source mask) (put caps destination cap) caps (put-end caps destination cap ends small) ends
 
 -- the four words of a place, as the code reads them
-pub loaded : (table : List ℕ) (p number : ℕ) → number ≡ p →
+pub loaded : (table : List ℕ) (p first : ℕ) → first ≡ p * placeWords →
     _≡_ {A = Cap}
     (record {
-      resource = word table (number * placeWords);
-      permissions = word table (number * placeWords + 1);
-      parent = word table (number * placeWords + 2);
-      depth = word table (number * placeWords + 3);
+      resource = word table first;
+      permissions = word table (first + 1);
+      parent = word table (first + 2);
+      depth = word table (first + 3);
     })
     (capAt table p)
 unfolding capAt
-loaded table p number is-number = let at : number * placeWords ≡ placeWords * p = omega arith in rw at
+loaded table p first is-first = let at : first ≡ placeWords * p = omega arith in rw at
 
-module _ (table : List ℕ) (p number : ℕ) (cap : Cap) (is-number : number ≡ p) where
-  -- the number of the place's first word, as the code makes it
-  abbrev first : ℕ
-  first = number * placeWords
-
+-- a capability, and where the words of a place begin
+module _ (table : List ℕ) (p first : ℕ) (cap : Cap) (is-first : first ≡ p * placeWords) where
   -- the table after the four stores
   abbrev stores : List ℕ
   stores = set (set (set (set table first (cap .resource)) (first + 1) (cap .permissions)) (first + 2) (cap .parent)) (first + 3) (cap .depth)

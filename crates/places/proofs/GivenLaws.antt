@@ -10,6 +10,7 @@ use mir.Val.{Fits}
 use borrow.Author.Tests.{ltb-true, not-true, not-false}
 use Rattle.words.specs.Sizes.{greatestDepth}
 use Rattle.words.specs.Permissions.{delegated}
+use Rattle.descriptor.specs.Numbers.{linkOf}
 use Rattle.interface.specs.Basics.{put}
 use Rattle.interface.specs.Places.{Cap, live, capAt, capTable}
 use Rattle.interface.specs.Effects.{fills}
@@ -46,10 +47,10 @@ module _ {table : List ℕ} {destination source mask : ℕ} {from to : Cap} {lef
       record { is-filled = sym f; leaves = rw f (sym (cap-table-back table sized)) }
 
   -- where it passes the destination is put what the source hands on
-  pub given-one : {after : List ℕ} {number : ℕ} → number ≡ source → not (passes from left fromLive toLive) ≡ false →
-      after ≡ capTable (put (capAt table) destination (record { resource = from .resource; permissions = left; parent = number + 1; depth = from .depth + 1 })) →
+  pub given-one : {after : List ℕ} {link : ℕ} → link ≡ linkOf source → not (passes from left fromLive toLive) ≡ false →
+      after ≡ capTable (put (capAt table) destination (record { resource = from .resource; permissions = left; parent = link; depth = from .depth + 1 })) →
       Given table after destination source mask true
-  given-one is-number f e =
+  given-one is-link f e =
       let p = passes-fills table destination source mask from to left fromLive toLive is-from is-to is-left from-live to-live in
       let t = sym p ∙ not-false (passes from left fromLive toLive) f in
-      record { is-filled = sym t; leaves = rw t (rw (is-left, is-from, is-number) at e) }
+      record { is-filled = sym t; leaves = rw t (rw (is-left, is-from, is-link) at e) }

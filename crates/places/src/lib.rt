@@ -34,7 +34,7 @@ pub fn load(table: &[u32], place: Place) -> Cap
     requires { ⌜ Sized (now table) × (place .0 < places) ⌝ }
     ensures { λ r. ⌜ r ≡ capAt (now (table .entry)) (place .0) ⌝ }
 {
-    let at = (place.number() as usize) * sizes::PLACE_WORDS;
+    let at = place.words_start();
     Cap {
         resource: table[at],
         permissions: table[at + 1],
@@ -48,7 +48,7 @@ pub fn store(table: &mut [u32], place: Place, cap: Cap)
     requires { ⌜ Sized (now table) × (place .0 < places) ⌝ }
     ensures { λ r. ⌜ now (table .exit) ≡ capTable (put (capAt (now (table .entry))) (place .0) cap) ⌝ }
 {
-    let at = (place.number() as usize) * sizes::PLACE_WORDS;
+    let at = place.words_start();
     table[at] = cap.resource;
     table[at + 1] = cap.permissions;
     table[at + 2] = cap.parent;
@@ -72,7 +72,7 @@ pub fn give(table: &mut [u32], destination: Place, source: Place, mask: u32) -> 
         Cap {
             resource: from.resource,
             permissions: left,
-            parent: source.number() + 1,
+            parent: source.link(),
             depth: from.depth + 1,
         },
     );

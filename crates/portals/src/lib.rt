@@ -34,9 +34,9 @@ pub fn call(
     if !capabilities::is_permitted(places, objects, place, objects::PT, CALL) {
         return Reply::BadCap;
     }
-    let portal = ObjectNumber::nth(places::load(places, place).resource);
-    let callee = ObjectNumber::nth(objects::load(objects, portal, objects::BOUND_EC));
-    if callee.number() == caller.number() {
+    let portal = ObjectNumber::named_by(places::load(places, place));
+    let callee = ObjectNumber::bound_by(objects::load(objects, portal, objects::BOUND_EC));
+    if callee.is(caller) {
         return Reply::ComTim;
     }
     if objects::load(objects, callee, objects::CPU)

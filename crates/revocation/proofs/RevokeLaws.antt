@@ -29,12 +29,12 @@ pub record Aimed (domain : ℕ) (range : Range) (mask first size : ℕ) : Type 0
   pub is-first : first ≡ placeOf domain (range .space) (range .base)
   pub is-size : size ≡ 2 ^ range .order
 
-pub aims : (domain : ℕ) {space selector place first order size mask : ℕ} {range : Range} → mask ≡ range .mask → space ≡ range .space →
-    selector ≡ range .base + 0 → place ≡ placeOf domain space selector → first ≡ place → order ≡ range .order → size ≡ 2 ^ order → Aimed domain range mask first size
-aims domain {range} is-mask is-space is-selector is-place is-first is-order is-size =
+pub aims : (domain : ℕ) {space selector first order size mask : ℕ} {range : Range} → mask ≡ range .mask → space ≡ range .space →
+    selector ≡ range .base + 0 → first ≡ placeOf domain space selector → order ≡ range .order → size ≡ 2 ^ order → Aimed domain range mask first size
+aims domain {range} is-mask is-space is-selector is-first is-order is-size =
     record {
       is-mask = is-mask;
-      is-first = rw (is-first, is-place, is-space, is-selector, add-zero (range .base));
+      is-first = rw (is-first, is-space, is-selector, add-zero (range .base));
       is-size = rw (is-size, is-order);
     }
 

@@ -34,7 +34,7 @@ pub fn revoke(
             let space = range.space();
             let first = Place::of(domain, space, range.at(0));
             let size = ranges::size(range.order());
-            tree::cut(places, range.mask(), first.number(), size, self_word == 1);
+            tree::cut(places, range.mask(), first, size, self_word == 1);
             Reply::Success(0)
         }
     }

@@ -30,7 +30,7 @@ pub fn sm_ctrl(
     if !capabilities::is_permitted(places, objects, place, objects::SM, operation) {
         return Reply::BadCap;
     }
-    let number = ObjectNumber::nth(places::load(places, place).resource);
+    let number = ObjectNumber::named_by(places::load(places, place));
     let count = objects::load(objects, number, objects::COUNT);
     if operation == UP {
         if count == 4294967295 {

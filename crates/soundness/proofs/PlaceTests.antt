@@ -11,6 +11,11 @@ use Rattle.words.specs.Sizes.{domains, memory, io, object, spaces, selectors, s
 use Rattle.words.specs.Fields.{bits}
 use Rattle.words.specs.Permissions.{within, permits}
 use Rattle.words.proofs.PlaceLaws.{domain-back, space-back, selector-back, made-so, space-small, selector-small}
+use Rattle.descriptor.specs.declared.Place.{Place}
+use Rattle.descriptor.specs.declared.FoundPlace.{FoundPlace}
+use Rattle.descriptor.specs.declared.FoundPlace.the-variants.{At, Nowhere}
+use Rattle.descriptor.specs.Numbers.{linked}
+use Rattle.descriptor.proofs.DescriptorLaws.{linked-out, linked-inside}
 use Rattle.interface.specs.Places.{Cap, State, Tables, live, nothing, parentless, free, placeTableWords, objectAt, shown, kindOf, greatestOf, greatest}
 use Rattle.interface.specs.Boot.{hypervisor, cpus, rootPd, bootRecord, hypervisorCap, bootCap}
 use Rattle.interface.specs.Damage.{between1, sameCap, fixed-place, hasPd, null-place, isResource, live-place, shallow}
@@ -20,6 +25,21 @@ use Rattle.interface.proofs.BoolLaws.{cases, and-right, both, same-test, or-non
 use Rattle.interface.proofs.PlaceFacts.{same-cap, some-live, more-live}
 use Rattle.soundness.specs.Keeping.{parentFits, lineageKeeps, placeKeeps, Numbered, Kept, Around}
 use Rattle.soundness.proofs.PdLaws.{home-counted}
+
+-- a link word that leads to a place is one more than its number, and one that leads nowhere is 0 or past the places
+module _ (word : ℕ) {found : FoundPlace} where
+  pub link-before : (parent : Place) → found ≡ linked word → found ≡ At parent → parent .0 ≡ word - 1
+  link-before parent is-found leads = omega (arith, linked-inside word parent (sym is-found ∙ leads) .0)
+
+  pub link-past : (word ≡ 0 → ⊥) → found ≡ linked word → found ≡ Nowhere → places ≤ word - 1
+  link-past some is-found none =
+      cases (leb word places)
+      (λ (t : leb word places ≡ true). absurd (some (linked-out word (sym is-found ∙ none) (leb-true word places t))))
+      (λ (f : leb word places ≡ false). omega (arith, leb-false word places f))
+
+-- a place that a link word leads to is one of the places
+pub link-small : (word : ℕ) (parent : Place) (found : FoundPlace) → found ≡ linked word → found ≡ At parent → parent .0 < places
+link-small word parent found is-found leads = linked-inside word parent (sym is-found ∙ leads) .1
 
 -- the space of a place from its number alone
 space-at : (domain space selector : ℕ) → space < spaces → selector < selectors space →
@@ -159,7 +179,7 @@ module _ (s : State) (p : ℕ) where
       b ≡ parentless (p - from) permissions → same ≡ sameCap a b → same ≡ fixed-place s p
   fixed-stretch from permissions same a b l boots e f h = fixed-same same a b l e (f ∙ sym boots) h
 
-  -- the parent of a capability
+  -- the parent of a capability: a word other than 0 that leads nowhere names a number past the places
   pub parent-past : (space : ℕ) (cap : Cap) (q : ℕ) → places ≤ q → false ≡ parentFits s space cap q
   parent-past space cap q l = rw (le-ltb q places l)
 
@@ -187,10 +207,17 @@ module _ (s : State) (p : ℕ) where
         let none : eqb (s .caps p .parent) 0 ≡ true = rw held at (eq-eqb (cap .parent) 0 e) in
         rw (none, held, a, first-stride p)
 
-    pub lineage-parent : (space : ℕ) (fits : Bool) → (cap .parent ≡ 0 → ⊥) → space ≡ spaceOf p → fits ≡ parentFits s space cap (cap .parent - 1) → fits ≡ lineageKeeps s p
-    lineage-parent space fits n a h =
+    pub lineage-parent : (space : ℕ) (fits : Bool) (found : FoundPlace) (parent : Place) → (cap .parent ≡ 0 → ⊥) → space ≡ spaceOf p →
+        found ≡ linked (cap .parent) → found ≡ At parent → fits ≡ parentFits s space cap (parent .0) → fits ≡ lineageKeeps s p
+    lineage-parent space fits found parent n a is-found leads h =
         let some : eqb (s .caps p .parent) 0 ≡ false = rw held at (ne-eqb (cap .parent) 0 n) in
-        h ∙ rw (a, held, some)
+        (rw (link-before (cap .parent) parent is-found leads) at h) ∙ rw (a, held, some)
+
+    pub lineage-nowhere : (space : ℕ) (found : FoundPlace) → (cap .parent ≡ 0 → ⊥) → space ≡ spaceOf p → found ≡ linked (cap .parent) → found ≡ Nowhere →
+        false ≡ lineageKeeps s p
+    lineage-nowhere space found n a is-found none =
+        let some : eqb (s .caps p .parent) 0 ≡ false = rw held at (ne-eqb (cap .parent) 0 n) in
+        parent-past space cap (cap .parent - 1) (link-past (cap .parent) n is-found none) ∙ rw (a, held, some)
 
     -- a null place
     pub null-so : (null : Bool) → stride ≤ p → cap .permissions ≡ 0 → null ≡ (live cap || sameCap cap nothing) → null ≡ placeKeeps s p

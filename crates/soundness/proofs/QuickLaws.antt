@@ -11,6 +11,11 @@ use Rattle.words.specs.Sizes.{object, stride, domainOf, spaceOf, places, placeW
 use Rattle.words.specs.Permissions.{within}
 use Rattle.words.proofs.BitLaws.{within-le}
 use Rattle.interface.specs.Basics.{if_then_else_, word, allBelow}
+use Rattle.descriptor.specs.declared.Place.{Place}
+use Rattle.descriptor.specs.declared.FoundPlace.{FoundPlace}
+use Rattle.descriptor.specs.declared.FoundPlace.the-variants.{At, Nowhere}
+use Rattle.descriptor.specs.Numbers.{linked}
+use Rattle.descriptor.proofs.DescriptorLaws.{linked-inside}
 use Rattle.interface.specs.Places.{Cap, State, Tables, live, nothing, free, capAt, shown, kindOf, greatestOf, greatest}
 use Rattle.interface.specs.Boot.{hypervisor}
 use Rattle.interface.specs.Damage.{sameCap, fixed-place, hasPd, null-place, isResource, parentless-place, live-place, shallow}
@@ -18,7 +23,7 @@ use Rattle.interface.proofs.BoolLaws.{cases, and-left, and-right, same-test, ea
 use Rattle.interface.proofs.BelowLaws.{all-below-at, all-below}
 use Rattle.interface.proofs.PlaceFacts.{same-cap, null-cap, null-test, depth-small, ChildOf, child-facts, child-test, Lineage, no-parent, child, LivePlace, live-facts, live-test}
 use Rattle.soundness.specs.Keeping.{placesIn, placeKeeps, parentFits, quickKeeps, group, blank, Kept}
-use Rattle.soundness.proofs.PlaceTests.{past-hypervisor, fixed-past, parent-past}
+use Rattle.soundness.proofs.PlaceTests.{link-before, link-past, past-hypervisor, fixed-past, parent-past}
 use Rattle.soundness.proofs.KeepingLaws.{place-parts}
 use Rattle.soundness.proofs.HypervisorLaws.{hypervisor-below}
 
@@ -37,17 +42,6 @@ module _ (resource permissions kind : ℕ) where
 
   pub names-one : (most : ℕ) → resource < records → most ≡ greatestOf kind → leb permissions most ≡ (ltb resource records && leb permissions (greatestOf kind))
   names-one most inside e = rw (lt-ltb resource records inside, e)
-
--- a number plus 1 that is a place's, or none
-module _ (parent : ℕ) where
-  pub some-place : (leb 1 parent && leb parent places) ≡ true → 1 ≤ parent
-  some-place t = leb-true 1 parent (and-left (leb 1 parent) (leb parent places) t)
-
-  past-last : (parent ≡ 0 → ⊥) → (leb 1 parent && leb parent places) ≡ false → places ≤ parent - 1
-  past-last some f =
-      let small : leb 1 parent ≡ true = le-leb 1 parent (omega arith) in
-      let past : places < parent = leb-false parent places (rw small at f) in
-      omega arith
 
 module _ (s : State) (p : ℕ) (past : stride ≤ p) (cap : Cap) (held : cap ≡ s .caps p) where
   -- the ways through the test
@@ -71,21 +65,23 @@ module _ (s : State) (p : ℕ) (past : stride ≤ p) (cap : Cap) (held : cap ≡
 
   -- and those of a domain with a PD
   module _ (space : ℕ) (alive : cap .permissions ≡ 0 → ⊥) (in-space : space ≡ spaceOf p) (at-home : true ≡ homely s p) where
-    pub child-at-home : (fits : Bool) → 1 ≤ cap .parent → fits ≡ parentFits s space cap (cap .parent - 1) →
-        (leb (cap .depth) greatestDepth && fits) ≡ quickKeeps s p
-    child-at-home fits some is-fits =
-        and-comm (leb (cap .depth) greatestDepth) fits ∙ quick-child space true alive in-space at-home fits (λ none. omega arith) is-fits
+    pub child-at-home : (fits : Bool) (found : FoundPlace) (parent : Place) → found ≡ linked (cap .parent) → found ≡ At parent →
+        fits ≡ parentFits s space cap (parent .0) → (leb (cap .depth) greatestDepth && fits) ≡ quickKeeps s p
+    child-at-home fits found parent is-found leads is-fits =
+        let some : cap .parent ≡ 0 → ⊥ = λ none. omega (arith, linked-inside (cap .parent) parent (sym is-found ∙ leads) .0) in
+        and-comm (leb (cap .depth) greatestDepth) fits ∙
+        quick-child space true alive in-space at-home fits some (rw (link-before (cap .parent) parent is-found leads) at is-fits)
 
     -- no place is a parent past the last, so a place that is no child has no parent or breaks the rules
-    pub root-at-home : (named : Bool) → (leb 1 (cap .parent) && leb (cap .parent) places) ≡ false →
+    pub root-at-home : (named : Bool) (found : FoundPlace) → found ≡ linked (cap .parent) → found ≡ Nowhere →
         named ≡ (ltb (cap .resource) records && leb (cap .permissions) (greatestOf (kindOf s (cap .resource)))) →
         (eqb (cap .parent) 0 && eqb space object && eqb (cap .depth) 0 && named) ≡ quickKeeps s p
-    root-at-home named no-child is-named =
+    root-at-home named found is-found no-child is-named =
         cases (eqb (cap .parent) 0)
         (λ (t : eqb (cap .parent) 0 ≡ true). rw t (quick-root space true alive in-space at-home named (eqb-true (cap .parent) 0 t) is-named))
         (λ (f : eqb (cap .parent) 0 ≡ false).
         let some : cap .parent ≡ 0 → ⊥ = eqb-false (cap .parent) 0 f in
-        let past : places ≤ cap .parent - 1 = past-last (cap .parent) some no-child in
+        let past : places ≤ cap .parent - 1 = link-past (cap .parent) some is-found no-child in
         rw f (quick-child space true alive in-space at-home false some (parent-past s p space cap (cap .parent - 1) past)))
 
 -- a place of domain 0 passes

@@ -12,6 +12,7 @@ ghost use Rattle.interface.specs.Damage.{sameCap, fixed-place, live-place};
 ghost use Rattle.soundness.specs.Keeping.{placesIn, placeKeeps, parentFits, lineageKeeps, quickKeeps, group, blank, Kept, Around};
 use crate::record_rules;
 use descriptor::Cap;
+use descriptor::FoundPlace;
 use descriptor::Place;
 use words::permissions;
 use words::sizes;
@@ -36,18 +37,12 @@ const GROUP_WORDS: usize = 64;
 
 const GROUPS: u32 = 4;
 
-// What a place holds.
+// What the place holds that a loop over the places has counted to.
 pub fn cap_at(table: &[u32], place: u32) -> Cap
     requires { ⌜ (length (now table) ≡ placeTableWords) × (place < places) ⌝ }
     ensures { λ r. ⌜ r ≡ capAt (now (table .entry)) place ⌝ }
 {
-    let at = sizes::PLACE_WORDS * (place as usize);
-    Cap {
-        resource: table[at],
-        permissions: table[at + 1],
-        parent: table[at + 2],
-        depth: table[at + 3],
-    }
+    places::load(table, Place::counted(place))
 }
 
 // The space of a place: all spaces have as many selectors.
@@ -58,11 +53,11 @@ pub fn space_of(place: u32) -> u32
 }
 
 // Whether a place is of a space: the block of a place's number has its bit in the space's turns.
-fn is_of_space(place: u32, space: u32) -> bool
-    requires { ⌜ (place < places) × (space < spaces) ⌝ }
-    ensures { λ r. ⌜ r ≡ eqb (spaceOf place) space ⌝ }
+fn is_of_space(place: Place, space: u32) -> bool
+    requires { ⌜ (place .0 < places) × (space < spaces) ⌝ }
+    ensures { λ r. ⌜ r ≡ eqb (spaceOf (place .0)) space ⌝ }
 {
-    permissions::has(place / sizes::SELECTORS, TURNS << space)
+    permissions::has(place.number() / sizes::SELECTORS, TURNS << space)
 }
 
 // Whether two places show the same.
@@ -83,7 +78,7 @@ pub fn fixed_keeps(table: &[u32], place: u32) -> bool
     if sizes::STRIDE <= place {
         return true;
     }
-    is_same(cap_at(table, place), boot::boot_cap(Place::nth(place)))
+    is_same(cap_at(table, place), boot::boot_cap(Place::counted(place)))
 }
 
 // Rule 10: a null place is all 0.
@@ -94,14 +89,11 @@ pub fn null_keeps(cap: Cap) -> bool
 }
 
 // Whether a place may be the parent of a capability in a space. A place that has the capability's permissions is live.
-fn parent_fits(table: &[u32], space: u32, cap: Cap, parent: u32) -> bool
-    requires { ⌜ (length (now table) ≡ placeTableWords) × (0 < cap .permissions) × (space < spaces) ⌝ }
-    ensures { λ r. ⌜ r ≡ parentFits (placesIn (now (table .entry))) space cap parent ⌝ }
+fn parent_fits(table: &[u32], space: u32, cap: Cap, parent: Place) -> bool
+    requires { ⌜ (length (now table) ≡ placeTableWords) × (0 < cap .permissions) × (space < spaces) × (parent .0 < places) ⌝ }
+    ensures { λ r. ⌜ r ≡ parentFits (placesIn (now (table .entry))) space cap (parent .0) ⌝ }
 {
-    if sizes::PLACES <= parent {
-        return false;
-    }
-    let above = cap_at(table, parent);
+    let above = places::load(table, parent);
     is_of_space(parent, space)
         & (above.resource == cap.resource)
         & permissions::is_within(cap.permissions, above.permissions)
@@ -116,7 +108,10 @@ fn lineage_keeps(table: &[u32], place: u32, space: u32, cap: Cap) -> bool
     if cap.parent == 0 {
         return (cap.depth == 0) & ((space == sizes::OBJECT) | (place < sizes::STRIDE));
     }
-    parent_fits(table, space, cap, cap.parent - 1)
+    let FoundPlace::At(parent) = Place::linked(cap.parent) else {
+        return false;
+    };
+    parent_fits(table, space, cap, parent)
 }
 
 // Rule 11: a live place lies in a domain with a PD, names a resource, has no permission above the greatest, and has a fitting parent or none.
@@ -162,11 +157,13 @@ fn quick_keeps(table: &[u32], objects: &[u32], place: u32, space: u32) -> bool
     if cap.permissions == 0 {
         return is_same(cap, places::without_parent(0, 0));
     }
-    if (1 <= cap.parent) & (cap.parent <= sizes::PLACES) {
-        return (cap.depth <= sizes::GREATEST_DEPTH)
-            & parent_fits(table, space, cap, cap.parent - 1);
-    }
-    (cap.parent == 0) & (space == sizes::OBJECT) & (cap.depth == 0) & names_object(objects, cap)
+    let FoundPlace::At(parent) = Place::linked(cap.parent) else {
+        return (cap.parent == 0)
+            & (space == sizes::OBJECT)
+            & (cap.depth == 0)
+            & names_object(objects, cap);
+    };
+    (cap.depth <= sizes::GREATEST_DEPTH) & parent_fits(table, space, cap, parent)
 }
 
 // Whether the words of a group of places are all 0.

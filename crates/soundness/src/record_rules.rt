@@ -9,6 +9,7 @@ ghost use Rattle.interface.specs.Basics.{if_then_else_, allBelow};
 ghost use Rattle.interface.specs.Places.{PD, SM, objectTableWords, domainWord, objectAt, kindOf};
 ghost use Rattle.interface.specs.Damage.{fixed-record, interrupt-rule, unnamed-rule, used-first, pdsBelow, pd-rule, hasPd, isEc, ec-rule, sc-rule, pt-rule};
 ghost use Rattle.soundness.specs.Keeping.{recordsIn, hasWords, recordKeeps, Numbered};
+use descriptor::ObjectNumber;
 use words::sizes;
 
 // The greatest priority and quantum.
@@ -16,12 +17,12 @@ const GREATEST_PRIORITY: u32 = 255;
 
 const GREATEST_QUANTUM: u32 = 1048575;
 
-// A word of a record.
+// A word of the record that a loop over the records has counted to.
 pub fn word_of(objects: &[u32], number: u32, index: u32) -> u32
     requires { ⌜ (length (now objects) ≡ objectTableWords) × (number < records) × (index < recordWords) ⌝ }
     ensures { λ r. ⌜ r ≡ objectAt (now (objects .entry)) number index ⌝ }
 {
-    objects[sizes::RECORD_WORDS * (number as usize) + index as usize]
+    objects::load(objects, ObjectNumber::counted(number), index as usize)
 }
 
 // The kind of a record.

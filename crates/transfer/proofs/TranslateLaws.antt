@@ -12,12 +12,17 @@ use Rattle.words.specs.Sizes.{domains, memory, selectors, stride, places, place
 use Rattle.words.specs.Permissions.{delegated}
 use Rattle.words.specs.Ranges.{aligned}
 use Rattle.words.proofs.PlaceLaws.{is-place, space-back, selector-small, made-so}
+use Rattle.descriptor.specs.declared.Place.{Place}
+use Rattle.descriptor.specs.declared.FoundPlace.{FoundPlace}
+use Rattle.descriptor.specs.declared.FoundPlace.the-variants.{At, Nowhere}
 use Rattle.descriptor.specs.declared.Range.{Range}
 use Rattle.descriptor.specs.declared.Match.the-variants.{Both}
 use Rattle.descriptor.specs.declared.Received.{Received}
 use Rattle.descriptor.specs.declared.Received.the-variants.{NullItem, Shows}
 use Rattle.descriptor.specs.declared.Reason.the-variants.{TranslationBroke}
+use Rattle.descriptor.specs.Numbers.{linked as placeLinked}
 use Rattle.descriptor.specs.Descriptors.{Proper}
+use Rattle.descriptor.proofs.DescriptorLaws.{linked-out, linked-inside}
 use Rattle.interface.specs.Basics.{if_then_else_, allBelow}
 use Rattle.interface.specs.Places.{Cap, capAt}
 use Rattle.interface.specs.Effects.{chain, ancestors, among}
@@ -72,7 +77,7 @@ nearest-place caps linked domain place r l e =
     (omega arith, found-space caps linked (domain * stride) stride r place l found)
 
 -- its number is at most that of the places
-pub nearest-small : (caps : ℕ → Cap) (domain place : ℕ) → domain < domains → nearest caps domain place ≤ places
+nearest-small : (caps : ℕ → Cap) (domain place : ℕ) → domain < domains → nearest caps domain place ≤ places
 nearest-small caps domain place d = go (nearest caps domain place) refl
   where
     go : (n : ℕ) → nearest caps domain place ≡ n → n ≤ places
@@ -201,24 +206,33 @@ module _ {table : List ℕ} {sender receiver : ℕ} {item window : Range} {order
       (λ (t : translates (capAt table) sender receiver item window ≡ true). absurd (n t)) broken
 
   -- what is found at the present offset
-  module _ {place found : ℕ} (l : i < size) (p : place ≡ senderPlace sender item i) (f : found ≡ nearest (capAt table) receiver place) where
+  module _ {place : ℕ} {found : FoundPlace} (l : i < size) (p : place ≡ senderPlace sender item i) (f : found ≡ placeLinked (nearest (capAt table) receiver place)) where
     in-range : i < 2 ^ item .order
     in-range = rw (s .is-size) at l
 
-    is-ancestor : found ≡ ancestorAt (capAt table) sender receiver item i
+    is-ancestor : found ≡ placeLinked (ancestorAt (capAt table) sender receiver item i)
     is-ancestor = rw p at f
 
     -- no ancestor
-    pub search-none : found ≡ 0 → NullItem TranslationBroke ≡ answer
+    pub search-none : found ≡ Nowhere → NullItem TranslationBroke ≡ answer
     search-none none =
-        broken-unless (λ y. omega (arith, stands (capAt table) sender receiver item window y i in-range, is-ancestor))
+        let small = nearest-small (capAt table) receiver (senderPlace sender item i) (s .receiver-small) in
+        let no-ancestor = linked-out (ancestorAt (capAt table) sender receiver item i) (sym is-ancestor ∙ none) small in
+        broken-unless (λ y. omega (arith, stands (capAt table) sender receiver item window y i in-range, no-ancestor))
 
     -- one, with its selector and the base that the search goes on with
-    module _ {nth selected next : ℕ} (some : found ≡ 0 → ⊥) (n : nth ≡ found - 1) (e : selected ≡ selectorOf nth) (b : next ≡ (if eqb i 0 then selected else base)) where
+    module _ {above : Place} {selected next : ℕ} (leads : found ≡ At above) (e : selected ≡ selectorOf (above .0)) (b : next ≡ (if eqb i 0 then selected else base)) where
+      is-above : ancestorAt (capAt table) sender receiver item i ≡ suc (above .0)
+      is-above = omega (arith, linked-inside (ancestorAt (capAt table) sender receiver item i) above (sym is-ancestor ∙ leads) .0)
+
       found-place : placeOf receiver (item .space) selected + 1 ≡ ancestorAt (capAt table) sender receiver item i
       found-place =
-          let is-suc : ancestorAt (capAt table) sender receiver item i ≡ suc nth = omega (arith, is-ancestor) in
-          rw (is-suc, e, ancestor-place (capAt table) sender receiver item window (s .linked) (s .sender-small) (s .matched .item-proper) i nth in-range is-suc) (omega arith)
+          rw (
+            is-above,
+            e,
+            ancestor-place (capAt table) sender receiver item window (s .linked) (s .sender-small) (s .matched .item-proper) i (above .0) in-range is-above,
+          )
+          (omega arith)
 
       next-base : next ≡ shown
       next-base =
@@ -226,7 +240,8 @@ module _ {table : List ℕ} {sender receiver : ℕ} {item window : Range} {order
           (λ (t : eqb i 0 ≡ true).
           let zero-offset : i ≡ 0 = eqb-true i 0 t in
           let is-selected : next ≡ selected = rw t at b in
-          is-selected ∙ e ∙ rw (n, is-ancestor, zero-offset))
+          let is-before : above .0 ≡ ancestorAt (capAt table) sender receiver item i - 1 = omega (arith, is-above) in
+          is-selected ∙ e ∙ rw (is-before, zero-offset))
           (λ (g : eqb i 0 ≡ false).
           let is-old : next ≡ base = rw g at b in
           let later = eqb-false i 0 g in

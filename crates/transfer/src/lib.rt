@@ -9,6 +9,7 @@ ghost use Rattle.words.specs.Ranges.{rounded};
 ghost use Rattle.descriptor.specs.declared.Range.{Range};
 ghost use Rattle.descriptor.specs.declared.Match.the-variants.{Both};
 ghost use Rattle.descriptor.specs.declared.Received.the-variants.{Shows};
+ghost use Rattle.descriptor.specs.Numbers.{linked};
 ghost use Rattle.descriptor.specs.Descriptors.{null, describe, reading, matched, Proper};
 ghost use Rattle.interface.specs.Basics.{if_then_else_};
 ghost use Rattle.interface.specs.Places.{capAt};
@@ -18,6 +19,7 @@ ghost use Rattle.tree.specs.Walks.{Linked, placesOnly};
 ghost use Rattle.transfer.specs.Typed.{LiveLinks, Matched, GivenAt, Taken, destinationOf, liesThere, itemBy, Done};
 ghost use Rattle.transfer.specs.Turns.{Blocks, Ready, movedBy, Transferred};
 use descriptor::Descriptor;
+use descriptor::FoundPlace;
 use descriptor::Match;
 use descriptor::Place;
 use descriptor::Range;
@@ -178,12 +180,12 @@ fn place_at(sender: u32, item: Range, offset: u32) -> Place
     Place::of(sender, item.space(), item.at(offset))
 }
 
-// The nearest strict ancestor of a place in a domain: its number plus 1, or 0.
-fn nearest_in(table: &[u32], domain: u32, place: Place) -> u32
+// The nearest strict ancestor of a place in a domain, if there is one.
+fn nearest_in(table: &[u32], domain: u32, place: Place) -> FoundPlace
     requires { ⌜ Sized (now table) × Linked (capAt (now table)) × (domain < domains) × (place .0 < places) ⌝ }
-    ensures { λ r. ⌜ (r ≡ nearest (capAt (now (table .entry))) domain (place .0)) × (r ≤ places) ⌝ }
+    ensures { λ r. ⌜ r ≡ linked (nearest (capAt (now (table .entry))) domain (place .0)) ⌝ }
 {
-    tree::ancestor(table, place, domain * sizes::STRIDE, sizes::STRIDE)
+    Place::linked(tree::ancestor(table, place, Place::first_of(domain), sizes::STRIDE))
 }
 
 // R, where all the ancestors' range begins: the selector found at offset 0.
@@ -221,11 +223,10 @@ pub fn translate(table: &[u32], sender: u32, receiver: u32, item: Range, window:
     let mut i = 0u32;
     'search: while i < size {
         let place = place_at(sender, item, i);
-        let found = nearest_in(table, receiver, place);
-        if found == 0 {
+        let FoundPlace::At(above) = nearest_in(table, receiver, place) else {
             break 'search;
-        }
-        let selector = Place::nth(found - 1).selector();
+        };
+        let selector = above.selector();
         base = base_of(i, selector, base);
         if !lies_there(selector.number(), base.number(), order, i, window) {
             break 'search;

@@ -121,8 +121,11 @@ module _ {caps : ℕ → Cap} {place number count : ℕ} {before list : List ℕ
 
 -- a word that names a place is its number, and one that names none lies past the places
 module _ (place : ℕ) {found : FoundPlace} (is-found : found ≡ placed place) where
-  pub named-inside : (at : Place) → found ≡ At at → (at .0 ≡ place) × (place < places)
+  named-inside : (at : Place) → found ≡ At at → (at .0 ≡ place) × (place < places)
   named-inside at there = placed-inside place at (sym is-found ∙ there)
+
+  pub named-small : (at : Place) → found ≡ At at → at .0 < places
+  named-small at there = rw (named-inside at there .0) (named-inside at there .1)
 
   past-places : found ≡ Nowhere → places ≤ place
   past-places none =
@@ -149,7 +152,10 @@ module _ (table : List ℕ) (place : ℕ) (list : List ℕ) {found : FoundPlace}
     unfolding counted
     counts-null t = rw (is-place, is-live, not-true alive t)
 
-    module _ {count : ℕ} (lives : not alive ≡ false) (is-count : count ≡ length (descendants (capAt table) place)) where
+    module _ {count : ℕ} (lives : not alive ≡ false) (counted-there : count ≡ length (descendants (capAt table) (at .0))) where
+      is-count : count ≡ length (descendants (capAt table) place)
+      is-count = rw (named-inside place is-found at there .0) at counted-there
+
       pub counts-short : length list < count → record { reply = Short count; list = list } ≡ counted (placesOnly table) place list
       unfolding counted
       counts-short l =
@@ -157,9 +163,10 @@ module _ (table : List ℕ) (place : ℕ) (list : List ℕ) {found : FoundPlace}
           rw (is-count, is-place, is-live, not-false alive lives, lt-ltb _ _ short)
 
       pub counts-all : {after : List ℕ} → count ≤ length list →
-          after ≡ descendants (capAt table) place ++ drop (length (descendants (capAt table) place)) list →
+          after ≡ descendants (capAt table) (at .0) ++ drop (length (descendants (capAt table) (at .0))) list →
           record { reply = Success count; list = after } ≡ counted (placesOnly table) place list
       unfolding counted
-      counts-all l e =
+      counts-all l filled =
+          let e = rw (named-inside place is-found at there .0) at filled in
           let fits : length (descendants (capAt table) place) ≤ length list = rw is-count at l in
           rw (is-count, e, is-place, is-live, not-false alive lives, le-ltb _ _ fits)

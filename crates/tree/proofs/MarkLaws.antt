@@ -68,37 +68,41 @@ module _ (test : ℕ → Bool) where
   mark-at place l = mark-read (marksOf test) place (word-listed (λ (number : ℕ). packed test (number * 32) 32) (places / 32) (place / 32) (omega arith))
 
   -- behind the last of 32 places no bits are there
-  pub packed-start : (from : ℕ) → 0 ≡ packed test (from + 32) (from + 32 - (from + 32))
-  packed-start from = rw (sub-self (from + 32)) (sym (packed-none (from + 32)))
+  pub packed-start : (from : ℕ) → 0 ≡ packed test (from + 32) (32 - 32)
+  packed-start from = rw (sub-self 32) (sym (packed-none (from + 32)))
 
   -- a place further down, the bit of that place comes in below the others, and there is room for it
-  module _ (from place : ℕ) {value : ℕ} (so-far : value ≡ packed test place (from + 32 - place)) (more : from < place) (inside : place ≤ from + 32) where
+  module _ (from offset : ℕ) {value : ℕ} (so-far : value ≡ packed test (from + offset) (32 - offset)) (more : 0 < offset) (inside : offset ≤ 32) where
     pub packed-room : value * 2 + 1 < 2 ^ 32
     packed-room =
-        let few : from + 32 - place ≤ 31 = omega arith in
-        omega (arith, so-far, packed-small (from + 32 - place) place, pow-mono few)
+        let few : 32 - offset ≤ 31 = omega arith in
+        omega (arith, so-far, packed-small (32 - offset) (from + offset), pow-mono few)
 
-    packed-next : value * 2 + bitOf (place - 1) ≡ packed test (place - 1) (from + 32 - (place - 1))
+    packed-next : value * 2 + bitOf (from + (offset - 1)) ≡ packed test (from + (offset - 1)) (32 - (offset - 1))
     packed-next =
-        let one-more : from + 32 - (place - 1) ≡ suc (from + 32 - place) = omega arith in
-        let back : place - 1 + 1 ≡ place = omega arith in
-        rw (one-more, packed-more (place - 1) (from + 32 - place), back, so-far)
+        let one-more : 32 - (offset - 1) ≡ suc (32 - offset) = omega arith in
+        let back : from + (offset - 1) + 1 ≡ from + offset = omega arith in
+        rw (one-more, packed-more (from + (offset - 1)) (32 - offset), back, so-far)
 
-    module _ {answer : Bool} (told : answer ≡ test (place - 1)) where
-      pub packed-marked : answer ≡ true → value * 2 + 1 ≡ packed test (place - 1) (from + 32 - (place - 1))
-      packed-marked t = rw (sym told ∙ t) at packed-next
+    module _ {answer : Bool} {place : ℕ} (is-place : place ≡ from + (offset - 1)) (told : answer ≡ test place) where
+      told-there : answer ≡ test (from + (offset - 1))
+      told-there = told ∙ ap test is-place
 
-      pub packed-unmarked : answer ≡ false → value * 2 ≡ packed test (place - 1) (from + 32 - (place - 1))
-      packed-unmarked f = let none : bitOf (place - 1) ≡ 0 = rw (sym told ∙ f) in omega (arith, packed-next)
+      pub packed-marked : answer ≡ true → value * 2 + 1 ≡ packed test (from + (offset - 1)) (32 - (offset - 1))
+      packed-marked t = rw (sym told-there ∙ t) at packed-next
+
+      pub packed-unmarked : answer ≡ false → value * 2 ≡ packed test (from + (offset - 1)) (32 - (offset - 1))
+      packed-unmarked f = let none : bitOf (from + (offset - 1)) ≡ 0 = rw (sym told-there ∙ f) in omega (arith, packed-next)
 
   -- at the first place all bits are there
-  pub packed-all : (from place : ℕ) {value : ℕ} → value ≡ packed test place (from + 32 - place) → place ≡ from → value ≡ packed test from 32
-  packed-all from place so-far all = let whole : from + 32 - place ≡ 32 = omega arith in so-far ∙ rw (whole, all)
+  pub packed-all : (from offset : ℕ) {value : ℕ} → value ≡ packed test (from + offset) (32 - offset) → offset ≡ 0 → value ≡ packed test from 32
+  packed-all from offset so-far all =
+      let whole : 32 - offset ≡ 32 = omega arith in let here : from + offset ≡ from = omega arith in so-far ∙ rw (whole, here)
 
--- whether a place loses permissions, by the answer of the walk from there
-pub cut-told : (caps : ℕ → Cap) (first size place : ℕ) (self : Bool) {at : ℕ} {answer : Bool} → at ≡ place → answer ≡ below caps first size at →
-    (answer || (self && among first size place)) ≡ cutAt caps first size self place
-cut-told caps first size place self is-at told = rw (told, is-at)
+-- whether a place loses permissions, by whether it is among the places and the answer of the walk from there
+pub cut-told : (caps : ℕ → Cap) (first size place : ℕ) (self : Bool) {inside answer : Bool} → inside ≡ among first size place →
+    answer ≡ below caps first size place → (answer || (self && inside)) ≡ cutAt caps first size self place
+cut-told caps first size place self is-inside told = rw (told, is-inside)
 
 -- a place is below a range where its parent is in it or below it, and a parent outside is marked where it is below
 above-told : (among-above below-above self : Bool) → (among-above || (below-above || (self && among-above))) ≡ (among-above || below-above)
@@ -107,12 +111,12 @@ above-told false true self = refl
 above-told false false true = refl
 above-told false false false = refl
 
-pub cut-marked : (caps : ℕ → Cap) (first size place above : ℕ) (self : Bool) (marks : List ℕ) {mark : Bool} →
+pub cut-marked : (caps : ℕ → Cap) (first size place above : ℕ) (self : Bool) (marks : List ℕ) {inside above-inside mark : Bool} →
+    inside ≡ among first size place → above-inside ≡ among first size above →
     below caps first size place ≡ (among first size above || below caps first size above) → mark ≡ markAt marks above →
-    markAt marks above ≡ cutAt caps first size self above →
-    ((among first size above || mark) || (self && among first size place)) ≡ cutAt caps first size self place
-cut-marked caps first size place above self marks is-below is-mark told =
-    rw (is-below, is-mark, told)
+    markAt marks above ≡ cutAt caps first size self above → ((above-inside || mark) || (self && inside)) ≡ cutAt caps first size self place
+cut-marked caps first size place above self marks is-inside above-is-inside is-below is-mark told =
+    rw (is-inside, above-is-inside, is-below, is-mark, told)
     (ap (λ (t : Bool). t || (self && among first size place)) (above-told (among first size above) (below caps first size above) self))
 
 -- a list whose words below a number are those of a function

@@ -1,6 +1,6 @@
 -- Places of another space than a range's lose nothing when it is revoked: a walk stays in one space.
 use Prim.Native.Nat.{ℕ, zero, suc, _+_, _-_, _*_, _%_, _≤_, _<_}
-use mathlib.Core.Path.{_≡_, refl, sym, ap, _∙_}
+use mathlib.Core.Path.{_≡_, refl, sym, _∙_}
 use mathlib.Core.Bool.{Bool, true, false, _&&_, _||_, and-false}
 use mathlib.Core.List.{List, [], _∷_}
 use native.Mathlib.Omega.{arith}
@@ -84,10 +84,3 @@ module _ (caps : ℕ → Cap) (linked : Linked caps) {first size : ℕ} (range :
       0 ≡ packed (cutAt caps first size self) from 32
   other-space self from a b whole l is-a is-b apart =
       sym (none-packed self 32 from l (λ i small same. apart (is-a ∙ sym (word-space from i whole small) ∙ same ∙ sym is-b)))
-
--- a place without a parent is below none
-pub rootless-cut : (caps : ℕ → Cap) (first size place : ℕ) (self : Bool) {at : ℕ} {cap : Cap} → at ≡ place → cap ≡ caps at → cap .parent ≡ 0 →
-    (self && among first size place) ≡ cutAt caps first size self place
-unfolding below any
-rootless-cut caps first size place self is-at is-cap none =
-    rw (ancestors-none caps place (ap (λ (c : Cap). c .parent) (sym (is-cap ∙ ap caps is-at)) ∙ none))

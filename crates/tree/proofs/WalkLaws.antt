@@ -1,56 +1,79 @@
 -- Laws of walks along parent links: a walk ends at a place without a parent, and goes on from a parent, whose depth is one less.
-use Prim.Native.Nat.{ℕ, suc, _+_, _-_, _<_}
+use Prim.Native.Nat.{ℕ, suc, _+_, _-_, _≤_, _<_}
 use mathlib.Core.Path.{_≡_, refl, sym, ap, _∙_}
-use mathlib.Core.Bool.{true, false, not, _||_}
+use mathlib.Core.Bool.{Bool, true, false, not, _&&_, _||_}
 use mathlib.Core.List.{List, [], _∷_}
 use native.Mathlib.Omega.{arith}
 use lib.Dec.{eqb}
-use borrow.Author.Tests.{ne-eqb}
+use borrow.Author.Tests.{eqb-true, eqb-false, ne-eqb}
 use Rattle.words.specs.Sizes.{places}
+use Rattle.descriptor.specs.declared.Place.{Place}
+use Rattle.descriptor.specs.declared.FoundPlace.{FoundPlace}
+use Rattle.descriptor.specs.declared.FoundPlace.the-variants.{At, Nowhere}
+use Rattle.descriptor.specs.Numbers.{linkOf, linked}
+use Rattle.descriptor.proofs.DescriptorLaws.{linked-out, linked-inside}
 use Rattle.interface.specs.Basics.{any}
 use Rattle.interface.specs.Places.{Cap}
 use Rattle.interface.specs.Effects.{ancestors, among, below}
 use Rattle.interface.proofs.BoolLaws.{cases}
 use Rattle.interface.proofs.CutSound.{ancestors-child, ancestors-none}
-use Rattle.tree.specs.Walks.{Linked, firstAmong}
+use Rattle.tree.specs.Walks.{Linked, firstAmong, cutAt}
 
--- what a place holds, and the place that its parent word names
-module _ {caps : ℕ → Cap} {place : ℕ} {cap : Cap} (linked : Linked caps) (small : place < places) (is-cap : cap ≡ caps place) where
-  abbrev above : ℕ
-  above = cap .parent - 1
+-- what a place holds, and the place that its parent word leads to
+module _ {caps : ℕ → Cap} {place : ℕ} {cap : Cap} {found : FoundPlace} (links : Linked caps) (small : place < places) (is-cap : cap ≡ caps place)
+    (is-found : found ≡ linked (cap .parent)) where
+  word-small : cap .parent ≤ places
+  word-small =
+      cases (eqb (cap .parent) 0) (λ (t : eqb (cap .parent) 0 ≡ true). omega (arith, eqb-true (cap .parent) 0 t))
+      (λ (f : eqb (cap .parent) 0 ≡ false).
+      let some = eqb-false (cap .parent) 0 f in
+      let to : caps place .parent ≡ suc (cap .parent - 1) = rw (← is-cap) (omega arith) in
+      omega (arith, links .parent-place place (cap .parent - 1) small to))
 
-  parent-word : (cap .parent ≡ 0 → ⊥) → caps place .parent ≡ suc above
-  parent-word some = rw (← is-cap) (omega arith)
+  no-parent : found ≡ Nowhere → caps place .parent ≡ 0
+  no-parent none = ap (λ (c : Cap). c .parent) (sym is-cap) ∙ linked-out (cap .parent) (sym is-found ∙ none) word-small
 
-  pub parent-small : (cap .parent ≡ 0 → ⊥) → above < places
-  parent-small some = linked .parent-place place above small (parent-word some)
-
-  -- the depth falls on the way to the parent
-  pub walk-shorter : (next depth : ℕ) → caps place .depth ≡ depth → (cap .parent ≡ 0 → ⊥) → next ≡ above → caps next .depth < depth
-  walk-shorter next depth is-depth some is-next = rw is-next (omega (arith, linked .parent-depth place above small (parent-word some)))
-
-  walk-on : (cap .parent ≡ 0 → ⊥) → ancestors caps place ≡ above ∷ ancestors caps above
-  walk-on some =
-      ancestors-child caps place above (parent-word some) (omega (arith, linked .parent-depth place above small (parent-word some)))
-
-  pub walk-ends : (first size : ℕ) → cap .parent ≡ 0 → 0 ≡ firstAmong first size (ancestors caps place)
+  pub walk-ends : (first size : ℕ) → found ≡ Nowhere → 0 ≡ firstAmong first size (ancestors caps place)
   unfolding firstAmong
-  walk-ends first size none = rw (ancestors-none caps place (ap (λ (c : Cap). c .parent) (sym is-cap) ∙ none))
+  walk-ends first size none = rw (ancestors-none caps place (no-parent none))
 
-  pub walk-finds : (first size : ℕ) → (cap .parent ≡ 0 → ⊥) → among first size above ≡ true →
-      cap .parent ≡ firstAmong first size (ancestors caps place)
-  unfolding firstAmong
-  walk-finds first size some t = rw (walk-on some, t) (omega arith)
-
-  pub walk-passes : (first size r next : ℕ) → (cap .parent ≡ 0 → ⊥) → among first size above ≡ false → next ≡ above →
-      r ≡ firstAmong first size (ancestors caps next) → r ≡ firstAmong first size (ancestors caps place)
-  unfolding firstAmong
-  walk-passes first size r next some f is-next e = rw (walk-on some, f, ← is-next) e
-
-  -- a place is below some places where its parent is among them or below them
-  pub walk-below : (first size : ℕ) → (cap .parent ≡ 0 → ⊥) → below caps first size place ≡ (among first size above || below caps first size above)
+  -- a place without a parent is below none
+  pub rootless-cut : (first size : ℕ) (self : Bool) {inside : Bool} → inside ≡ among first size place → found ≡ Nowhere →
+      (self && inside) ≡ cutAt caps first size self place
   unfolding below any
-  walk-below first size some = rw (walk-on some)
+  rootless-cut first size self is-inside none = rw (ancestors-none caps place (no-parent none), is-inside)
+
+  module _ {above : Place} (leads : found ≡ At above) where
+    leads-there : (cap .parent ≡ linkOf (above .0)) × (above .0 < places)
+    leads-there = linked-inside (cap .parent) above (sym is-found ∙ leads)
+
+    parent-word : caps place .parent ≡ suc (above .0)
+    parent-word = rw (← is-cap) (omega (arith, leads-there .0))
+
+    pub parent-small : above .0 < places
+    parent-small = leads-there .1
+
+    -- the depth falls on the way to the parent
+    pub walk-shorter : (depth : ℕ) → caps place .depth ≡ depth → caps (above .0) .depth < depth
+    walk-shorter depth is-depth = omega (arith, links .parent-depth place (above .0) small parent-word)
+
+    walk-on : ancestors caps place ≡ above .0 ∷ ancestors caps (above .0)
+    walk-on = ancestors-child caps place (above .0) parent-word (omega (arith, links .parent-depth place (above .0) small parent-word))
+
+    module _ (first size : ℕ) {inside : Bool} (is-inside : inside ≡ among first size (above .0)) where
+      pub walk-finds : inside ≡ true → cap .parent ≡ firstAmong first size (ancestors caps place)
+      unfolding firstAmong
+      walk-finds t = rw (walk-on, sym is-inside ∙ t) (leads-there .0)
+
+      pub walk-passes : {r : ℕ} → inside ≡ false → r ≡ firstAmong first size (ancestors caps (above .0)) →
+          r ≡ firstAmong first size (ancestors caps place)
+      unfolding firstAmong
+      walk-passes f e = rw (walk-on, sym is-inside ∙ f) e
+
+    -- a place is below some places where its parent is among them or below them
+    pub walk-below : (first size : ℕ) → below caps first size place ≡ (among first size (above .0) || below caps first size (above .0))
+    unfolding below any
+    walk-below first size = rw walk-on
 
 -- a walk finds a place where one that it passes is among the places
 found-any : (first size : ℕ) (list : List ℕ) → not (eqb (firstAmong first size list) 0) ≡ any (among first size) list

@@ -17,65 +17,62 @@ use descriptor::Reply;
 use words::permissions;
 use words::sizes;
 
-// The nearest strict ancestor of a place among as many places as `size` says from `first` on: its number plus 1, or 0 where there is none. The walk goes to the parent, whose
+// The nearest strict ancestor of a place among as many places as `size` says from `first` on: its link word, or 0 where there is none. The walk goes to the parent, whose
 // depth is one less.
-pub fn ancestor(table: &[u32], place: Place, first: u32, size: u32) -> u32
-    requires { ⌜ Sized (now table) × Linked (capAt (now table)) × (place .0 < places) × (first + size ≤ places) ⌝ }
-    ensures { λ r. ⌜ r ≡ firstAmong first size (ancestors (capAt (now (table .entry))) (place .0)) ⌝ }
+pub fn ancestor(table: &[u32], place: Place, first: Place, size: u32) -> u32
+    requires { ⌜ Sized (now table) × Linked (capAt (now table)) × (place .0 < places) × (first .0 + size ≤ places) ⌝ }
+    ensures { λ r. ⌜ r ≡ firstAmong (first .0) size (ancestors (capAt (now (table .entry))) (place .0)) ⌝ }
 {
     let cap = places::load(table, place);
-    let parent = cap.parent;
-    if parent == 0 {
+    let FoundPlace::At(above) = Place::linked(cap.parent) else {
         return 0;
+    };
+    if above.is_among(first, size) {
+        return cap.parent;
     }
-    let above = parent - 1;
-    if (first <= above) & (above < first + size) {
-        return parent;
-    }
-    ancestor(table, Place::nth(above), first, size)
+    ancestor(table, above, first, size)
 }
 
 // Whether a place is a strict descendant of one of those places.
-pub fn is_below(table: &[u32], place: Place, first: u32, size: u32) -> bool
-    requires { ⌜ Sized (now table) × Linked (capAt (now table)) × (place .0 < places) × (first + size ≤ places) ⌝ }
-    ensures { λ r. ⌜ r ≡ below (capAt (now (table .entry))) first size (place .0) ⌝ }
+pub fn is_below(table: &[u32], place: Place, first: Place, size: u32) -> bool
+    requires { ⌜ Sized (now table) × Linked (capAt (now table)) × (place .0 < places) × (first .0 + size ≤ places) ⌝ }
+    ensures { λ r. ⌜ r ≡ below (capAt (now (table .entry))) (first .0) size (place .0) ⌝ }
 {
     ancestor(table, place, first, size) != 0
 }
 
 // Whether a place is marked.
-fn is_marked(marked: &[u32; 48], place: u32) -> bool
-    requires { ⌜ place < places ⌝ }
-    ensures { λ r. ⌜ r ≡ markAt (now (marked .entry)) place ⌝ }
+fn is_marked(marked: &[u32; 48], place: Place) -> bool
+    requires { ⌜ place .0 < places ⌝ }
+    ensures { λ r. ⌜ r ≡ markAt (now (marked .entry)) (place .0) ⌝ }
 {
-    permissions::has(place % 32, marked[(place / 32) as usize])
+    let number = place.number();
+    permissions::has(number % 32, marked[(number / 32) as usize])
 }
 
 // Whether a place loses permissions, where those places before `walked` that do are marked: a parent among these tells of its child, and from any other place the walk does.
 fn is_cut(
     table: &[u32],
     marked: &[u32; 48],
-    walked: u32,
-    place: u32,
-    first: u32,
+    walked: Place,
+    place: Place,
+    first: Place,
     size: u32,
     self_too: bool,
 ) -> bool
-    requires { ⌜ Sized (now table) × Linked (capAt (now table)) × (place < places) × (first + size ≤ places) × Marked (cutAt (capAt (now table)) first size «self_too») walked (now marked) ⌝ }
-    ensures { λ r. ⌜ r ≡ cutAt (capAt (now (table .entry))) first size «self_too» place ⌝ }
+    requires { ⌜ Sized (now table) × Linked (capAt (now table)) × (place .0 < places) × (first .0 + size ≤ places) × Marked (cutAt (capAt (now table)) (first .0) size «self_too») (walked .0) (now marked) ⌝ }
+    ensures { λ r. ⌜ r ≡ cutAt (capAt (now (table .entry))) (first .0) size «self_too» (place .0) ⌝ }
 {
-    let among = (first <= place) & (place < first + size);
-    let at = Place::nth(place);
-    let cap = places::load(table, at);
-    if cap.parent == 0 {
+    let among = place.is_among(first, size);
+    let cap = places::load(table, place);
+    let FoundPlace::At(above) = Place::linked(cap.parent) else {
         return self_too & among;
-    }
-    let above = cap.parent - 1;
-    if above < walked {
-        let below = ((first <= above) & (above < first + size)) | is_marked(marked, above);
+    };
+    if above.is_before(walked) {
+        let below = above.is_among(first, size) | is_marked(marked, above);
         return below | (self_too & among);
     }
-    let below = is_below(table, at, first, size);
+    let below = is_below(table, place, first, size);
     below | (self_too & among)
 }
 
@@ -83,23 +80,31 @@ fn is_cut(
 fn mark_word(
     table: &[u32],
     marked: &[u32; 48],
-    from: u32,
-    first: u32,
+    from: Place,
+    first: Place,
     size: u32,
     self_too: bool,
 ) -> u32
-    requires { ⌜ Sized (now table) × Linked (capAt (now table)) × (from % 32 ≡ 0) × (from + 32 ≤ places) × InSpace first size × Marked (cutAt (capAt (now table)) first size «self_too») from (now marked) ⌝ }
-    ensures { λ r. ⌜ r ≡ packed (cutAt (capAt (now (table .entry))) first size «self_too») from 32 ⌝ }
+    requires { ⌜ Sized (now table) × Linked (capAt (now table)) × (from .0 % 32 ≡ 0) × (from .0 + 32 ≤ places) × InSpace (first .0) size × Marked (cutAt (capAt (now table)) (first .0) size «self_too») (from .0) (now marked) ⌝ }
+    ensures { λ r. ⌜ r ≡ packed (cutAt (capAt (now (table .entry))) (first .0) size «self_too») (from .0) 32 ⌝ }
 {
-    if Place::nth(from).space() != Place::nth(first).space() {
+    if from.space() != first.space() {
         return 0;
     }
     let mut word = 0u32;
-    let mut place = from + 32;
-    while from < place {
-        place -= 1;
+    let mut offset = 32u32;
+    while 0 < offset {
+        offset -= 1;
         word *= 2;
-        if is_cut(table, marked, from, place, first, size, self_too) {
+        if is_cut(
+            table,
+            marked,
+            from,
+            from.after(offset),
+            first,
+            size,
+            self_too,
+        ) {
             word += 1;
         }
     }
@@ -107,14 +112,15 @@ fn mark_word(
 }
 
 // Which places lose permissions, a bit for each in 48 words: found on the table as it is, before any is stripped.
-fn marks(table: &[u32], first: u32, size: u32, self_too: bool) -> [u32; 48]
-    requires { ⌜ Sized (now table) × Linked (capAt (now table)) × InSpace first size ⌝ }
-    ensures { λ r. ⌜ r ≡ marksOf (cutAt (capAt (now (table .entry))) first size «self_too») ⌝ }
+fn marks(table: &[u32], first: Place, size: u32, self_too: bool) -> [u32; 48]
+    requires { ⌜ Sized (now table) × Linked (capAt (now table)) × InSpace (first .0) size ⌝ }
+    ensures { λ r. ⌜ r ≡ marksOf (cutAt (capAt (now (table .entry))) (first .0) size «self_too») ⌝ }
 {
     let mut marked = [0u32; 48];
     let mut walked = 0u32;
     while walked < 48 {
-        let word = mark_word(table, &marked, walked * 32, first, size, self_too);
+        let from = Place::counted(walked * 32);
+        let word = mark_word(table, &marked, from, first, size, self_too);
         marked[walked as usize] = word;
         walked += 1;
     }
@@ -122,9 +128,9 @@ fn marks(table: &[u32], first: u32, size: u32, self_too: bool) -> [u32; 48]
 }
 
 // Removes a mask's permissions from every strict descendant of the places from `first` on, and from those places too if asked. A place left with none becomes null.
-pub fn cut(table: &mut [u32], mask: u32, first: u32, size: u32, self_too: bool)
-    requires { ⌜ Sized (now table) × Linked (capAt (now table)) × InSpace first size ⌝ }
-    ensures { λ r. ⌜ now (table .exit) ≡ capTable (cutCaps mask first size «self_too» (capAt (now (table .entry)))) ⌝ }
+pub fn cut(table: &mut [u32], mask: u32, first: Place, size: u32, self_too: bool)
+    requires { ⌜ Sized (now table) × Linked (capAt (now table)) × InSpace (first .0) size ⌝ }
+    ensures { λ r. ⌜ now (table .exit) ≡ capTable (cutCaps mask (first .0) size «self_too» (capAt (now (table .entry)))) ⌝ }
 {
     let marked = marks(table, first, size, self_too);
     let mut number = 0u32;
@@ -133,7 +139,7 @@ pub fn cut(table: &mut [u32], mask: u32, first: u32, size: u32, self_too: bool)
     }
 }
 
-// Removes a mask's permissions from a place if it is marked. Answers the next place: past all those of a word without a mark.
+// Removes a mask's permissions from the place that the count has come to if it is marked. Answers the next count: past all those of a word without a mark.
 fn strip_next(table: &mut [u32], marked: &[u32; 48], mask: u32, number: u32) -> u32
     requires { ⌜ Sized (now table) × (number < places) ⌝ }
     ensures { λ r. ⌜ Stepped (now (table .entry)) (now (marked .entry)) mask number (now (table .exit)) r ⌝ }
@@ -141,8 +147,9 @@ fn strip_next(table: &mut [u32], marked: &[u32; 48], mask: u32, number: u32) -> 
     if (number % 32 == 0) & (marked[(number / 32) as usize] == 0) {
         return number + 32;
     }
-    if is_marked(marked, number) {
-        strip(table, Place::nth(number), mask);
+    let place = Place::counted(number);
+    if is_marked(marked, place) {
+        strip(table, place, mask);
         return number + 1;
     }
     number + 1
@@ -181,14 +188,14 @@ fn strip(table: &mut [u32], place: Place, mask: u32)
 }
 
 // The number of strict descendants of a place.
-fn count_below(table: &[u32], place: u32) -> u32
-    requires { ⌜ Sized (now table) × Linked (capAt (now table)) × (place < places) ⌝ }
-    ensures { λ r. ⌜ r ≡ length (descendants (capAt (now (table .entry))) place) ⌝ }
+fn count_below(table: &[u32], place: Place) -> u32
+    requires { ⌜ Sized (now table) × Linked (capAt (now table)) × (place .0 < places) ⌝ }
+    ensures { λ r. ⌜ r ≡ length (descendants (capAt (now (table .entry))) (place .0)) ⌝ }
 {
     let mut count = 0u32;
     let mut number = 0u32;
     while number < sizes::PLACES {
-        if is_below(table, Place::nth(number), place, 1) {
+        if is_below(table, Place::counted(number), place, 1) {
             count += 1;
         }
         number += 1;
@@ -197,15 +204,16 @@ fn count_below(table: &[u32], place: u32) -> u32
 }
 
 // Puts the strict descendants of a place at the start of a list that is long enough, rising.
-fn fill_below(table: &[u32], place: u32, list: &mut [u32])
-    requires { ⌜ Sized (now table) × Linked (capAt (now table)) × (place < places) × (length (descendants (capAt (now table)) place) ≤ length (now list)) ⌝ }
-    ensures { λ r. ⌜ now (list .exit) ≡ descendants (capAt (now (table .entry))) place ++ drop (length (descendants (capAt (now (table .entry))) place)) (now (list .entry)) ⌝ }
+fn fill_below(table: &[u32], place: Place, list: &mut [u32])
+    requires { ⌜ Sized (now table) × Linked (capAt (now table)) × (place .0 < places) × (length (descendants (capAt (now table)) (place .0)) ≤ length (now list)) ⌝ }
+    ensures { λ r. ⌜ now (list .exit) ≡ descendants (capAt (now (table .entry))) (place .0) ++ drop (length (descendants (capAt (now (table .entry))) (place .0))) (now (list .entry)) ⌝ }
 {
     let mut count: usize = 0;
     let mut number = 0u32;
     while number < sizes::PLACES {
-        if is_below(table, Place::nth(number), place, 1) {
-            list[count] = number;
+        let below = Place::counted(number);
+        if is_below(table, below, place, 1) {
+            list[count] = below.number();
             count += 1;
         }
         number += 1;
@@ -224,10 +232,10 @@ pub fn census(place: u32, table: &[u32], list: &mut [u32]) -> Reply
     if !places::is_live(cap) {
         return Reply::BadCap;
     }
-    let count = count_below(table, place);
+    let count = count_below(table, at);
     if list.len() < (count as usize) {
         return Reply::Short(count);
     }
-    fill_below(table, place, list);
+    fill_below(table, at, list);
     Reply::Success(count)
 }

@@ -7,6 +7,9 @@ use Rattle.boot.proofs.boot_object.Tie as tie
 boot-record-requires : tie.Need-boot-record-requires
 boot-record-requires c κs = search needs
 
+number-requires : tie.Need-number-requires
+number-requires c κs = search needs
+
 greatest-permissions-requires : tie.Need-greatest-permissions-requires
 greatest-permissions-requires c κs = search needs
 
@@ -19,4 +22,9 @@ returns c = search (object-cap, needs)
 pub boot-object-spec : {M : Type 1} → statement M
 boot-object-spec =
     tie.close
-    (tie.spec boot-record-requires greatest-permissions-requires without-parent-requires returns)
+    (tie.spec
+    boot-record-requires
+    number-requires
+    greatest-permissions-requires
+    without-parent-requires
+    returns)

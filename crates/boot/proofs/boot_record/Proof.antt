@@ -4,6 +4,9 @@ use Rattle.boot.proofs.BootCapLaws.{idle-words, interrupt-words, pd-wor
 use Rattle.boot.proofs.boot_record.Statement.{statement}
 use Rattle.boot.proofs.boot_record.Tie as tie
 
+number-requires : tie.Need-number-requires
+number-requires c κs = search needs
+
 returns : tie.Need-returns
 returns c = search (idle-words, needs)
 
@@ -23,4 +26,5 @@ returns-6 : tie.Need-returns-6
 returns-6 c = search (free-words, needs)
 
 pub boot-record-spec : {M : Type 1} → statement M
-boot-record-spec = tie.close (tie.spec returns returns-2 returns-3 returns-4 returns-5 returns-6)
+boot-record-spec =
+    tie.close (tie.spec number-requires returns returns-2 returns-3 returns-4 returns-5 returns-6)

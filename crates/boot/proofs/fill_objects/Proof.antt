@@ -15,11 +15,11 @@ abbrev μ-loop : tie.MeasureT-loop
 loop-holds : tie.Need-loop-holds Inv-loop μ-loop
 loop-holds c = search (no-records, needs)
 
+counted-requires : tie.Need-counted-requires Inv-loop μ-loop
+counted-requires c κs = search needs
+
 boot-record-requires : tie.Need-boot-record-requires Inv-loop μ-loop
 boot-record-requires c κs = search needs
-
-nth-requires : tie.Need-nth-requires Inv-loop μ-loop
-nth-requires c κs = search needs
 
 make-requires : tie.Need-make-requires Inv-loop μ-loop
 make-requires c κs = search needs
@@ -46,8 +46,8 @@ fill-objects-spec =
     Inv-loop
     μ-loop
     loop-holds
+    counted-requires
     boot-record-requires
-    nth-requires
     make-requires
     add-number
     loop-less

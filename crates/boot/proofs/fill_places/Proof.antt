@@ -15,8 +15,8 @@ abbrev μ-loop : tie.MeasureT-loop
 loop-holds : tie.Need-loop-holds Inv-loop μ-loop
 loop-holds c = search (no-places, needs)
 
-nth-requires : tie.Need-nth-requires Inv-loop μ-loop
-nth-requires c κs = search needs
+counted-requires : tie.Need-counted-requires Inv-loop μ-loop
+counted-requires c κs = search needs
 
 boot-cap-requires : tie.Need-boot-cap-requires Inv-loop μ-loop
 boot-cap-requires c κs = search needs
@@ -46,7 +46,7 @@ fill-places-spec =
     Inv-loop
     μ-loop
     loop-holds
-    nth-requires
+    counted-requires
     boot-cap-requires
     store-requires
     add-number

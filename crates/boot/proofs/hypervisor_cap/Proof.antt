@@ -1,6 +1,6 @@
--- The tests are the definition's.
+-- The space decides as in the definition.
 use borrow.Author.Needs.{needs}
-use Rattle.boot.proofs.BootCapLaws.{hypervisor-resource, hypervisor-object, hypervisor-null}
+use Rattle.boot.proofs.BootCapLaws.{hypervisor-resource, hypervisor-held}
 use Rattle.boot.proofs.hypervisor_cap.Statement.{statement}
 use Rattle.boot.proofs.hypervisor_cap.Tie as tie
 
@@ -16,17 +16,14 @@ without-parent-requires c κs = search needs
 returns : tie.Need-returns
 returns c = search (hypervisor-resource, needs)
 
-boot-object-requires : tie.Need-boot-object-requires
-boot-object-requires c κs = search needs
+hypervisor-object-requires : tie.Need-hypervisor-object-requires
+hypervisor-object-requires c κs = search needs
+
+held-requires : tie.Need-held-requires
+held-requires c κs = search needs
 
 returns-2 : tie.Need-returns-2
-returns-2 c = search (hypervisor-object, needs)
-
-null-cap-requires : tie.Need-null-cap-requires
-null-cap-requires c κs = search needs
-
-returns-3 : tie.Need-returns-3
-returns-3 c = search (hypervisor-null, needs)
+returns-2 c = search (hypervisor-held, needs)
 
 pub hypervisor-cap-spec : {M : Type 1} → statement M
 hypervisor-cap-spec =
@@ -36,7 +33,6 @@ hypervisor-cap-spec =
     greatest-permissions-requires
     without-parent-requires
     returns
-    boot-object-requires
-    returns-2
-    null-cap-requires
-    returns-3)
+    hypervisor-object-requires
+    held-requires
+    returns-2)

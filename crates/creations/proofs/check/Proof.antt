@@ -8,7 +8,7 @@ use Rattle.interface.specs.Effects.{Effect}
 use Rattle.interface.specs.Verdicts.{Call, callerDomain}
 use Rattle.interface.specs.Creations.{freeRecord}
 use Rattle.creations.specs.Creating.{ruleOf}
-use Rattle.creations.proofs.CheckLaws.{GoesOn, ownChecks, room-small, new-live, not-by-pd, goes-on, not-bindable, not-on-cpu, not-good, no-room, has-room}
+use Rattle.creations.proofs.CheckLaws.{GoesOn, ownChecks, new-live, not-by-pd, goes-on, not-bindable, not-on-cpu, not-good, no-record, no-domain, has-room}
 use Rattle.creations.proofs.check.Statement.{statement}
 use Rattle.creations.proofs.check.Tie as tie
 
@@ -96,6 +96,12 @@ returns-5 c =
 free-record-requires : tie.Need-free-record-requires
 free-record-requires c κs = search needs
 
+enum-known-number : tie.Need-enum-known-number
+enum-known-number c = search needs
+
+enum-told : tie.Need-enum-told
+enum-told c = search needs
+
 returns-6 : tie.Need-returns-6
 unfolding freeRecord
 returns-6 c =
@@ -106,18 +112,30 @@ returns-6 c =
     record {
       judges =
           λ call words delegations in-domain is-first is-second.
-          no-room (goes (bound .before .before) call words delegations in-domain is-first is-second) (bound .if3 .left) (placed .if4 .left)
-          (good .if5 .left) (found .free-record .ensures) (c .if6 .taken);
+          no-record (goes (bound .before .before) call words delegations in-domain is-first is-second) (bound .if3 .left) (placed .if4 .left)
+          (good .if5 .left) (found .free-record .ensures) (c .enum-told .given .1);
     }
-
-nth-requires : tie.Need-nth-requires
-nth-requires c κs = search (room-small, needs)
 
 returns-7 : tie.Need-returns-7
 unfolding freeRecord
 returns-7 c =
-    let roomy = c .before in
-    let found = roomy .before .before in
+    let numbers = c .before .before .before in
+    let found = numbers .before .before in
+    let good = found .before in
+    let placed = good .before .before in
+    let bound = placed .before .before in
+    record {
+      judges =
+          λ call words delegations in-domain is-first is-second.
+          no-domain (goes (bound .before .before) call words delegations in-domain is-first is-second) (bound .if3 .left) (placed .if4 .left)
+          (good .if5 .left) (found .free-record .ensures) (numbers .number .given .1) (c .if6 .taken);
+    }
+
+returns-8 : tie.Need-returns-8
+unfolding freeRecord
+returns-8 c =
+    let numbers = c .before .before .before in
+    let found = numbers .before .before in
     let good = found .before in
     let placed = good .before .before in
     let bound = placed .before .before in
@@ -125,7 +143,7 @@ returns-7 c =
       judges =
           λ call words delegations in-domain is-first is-second.
           has-room (goes (bound .before .before) call words delegations in-domain is-first is-second) (bound .if3 .left) (placed .if4 .left)
-          (good .if5 .left) (found .free-record .ensures) (roomy .if6 .left) (c .nth .ensures);
+          (good .if5 .left) (found .free-record .ensures) (numbers .number .given .1) (c .if6 .left);
     }
 
 pub check-spec : {M : Type 1} → statement M
@@ -144,6 +162,8 @@ check-spec =
     returns-4
     returns-5
     free-record-requires
+    enum-known-number
+    enum-told
     returns-6
-    nth-requires
-    returns-7)
+    returns-7
+    returns-8)

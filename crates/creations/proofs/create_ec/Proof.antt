@@ -24,8 +24,8 @@ object-place-requires c κs = search needs
 load-requires : tie.Need-load-requires
 load-requires c κs = search (sized-places, needs)
 
-nth-requires : tie.Need-nth-requires
-nth-requires c κs = search (pd-small, needs)
+named-by-requires : tie.Need-named-by-requires
+named-by-requires c κs = search (pd-small, needs)
 
 load-requires-2 : tie.Need-load-requires-2
 load-requires-2 c κs = search (sized-objects, pd-small, needs)
@@ -55,7 +55,7 @@ returns-2 c =
     let checked = loaded .before .before .before .before .before .before in
     λ call is-caller is-first is-second is-third is-fourth.
     ec-granted (checked .before .before .before .before .before .before .before .before .pre) (checked .before .before .before .domain .ensures .0) is-caller is-first is-second is-third is-fourth
-    (checked .check .ensures) (loaded .before .before .before .before .number .given .1) (loaded .before .object-place .ensures .0) (loaded .load .ensures) (named .nth .ensures)
+    (checked .check .ensures) (loaded .before .before .before .before .number .given .1) (loaded .before .object-place .ensures .0) (loaded .load .ensures) (named .named-by .ensures)
     (c .before .before .before .before .before .before .before .load2 .ensures) (c .before .before .before .before .create .ensures)
 
 pub create-ec-spec : {M : Type 1} → statement M
@@ -68,7 +68,7 @@ create-ec-spec =
     enum-known-number
     object-place-requires
     load-requires
-    nth-requires
+    named-by-requires
     load-requires-2
     create-requires
     same-length

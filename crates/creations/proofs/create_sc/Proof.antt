@@ -1,7 +1,10 @@
 -- The checks refuse the creation, or it is granted and takes its steps.
+use mathlib.Core.Path.{_∙_}
+use native.Mathlib.Omega.{arith}
 use borrow.Author.Needs.{needs}
+use Rattle.interface.specs.Places.{bindScBit}
 use Rattle.capabilities.proofs.CallerLaws.{sized-places, sized-objects}
-use Rattle.creations.proofs.CreatingLaws.{takes-small}
+use Rattle.creations.proofs.CreatingLaws.{takes-small, bound-small}
 use Rattle.creations.proofs.CallLaws.{sc-refused, sc-granted}
 use Rattle.creations.proofs.create_sc.Statement.{statement}
 use Rattle.creations.proofs.create_sc.Tie as tie
@@ -27,8 +30,28 @@ enum-known-number c = search needs
 load-requires : tie.Need-load-requires
 load-requires c κs = search (sized-places, needs)
 
+named-by-requires : tie.Need-named-by-requires
+named-by-requires c κs =
+    let checked = c .before .before .before .before .before in
+    let asked = checked .before .before .before in
+    let bound = asked .before .before .before in
+    bound-small (bound .before .before .before .before .before .before .pre) (bound .before .domain .ensures .0) (checked .check .ensures) _ bindScBit
+    (c .before .before .before .number .given .1) (bound .object-place .ensures .0) (asked .is-permitted .ensures) (c .load .ensures)
+
+number-requires : tie.Need-number-requires
+number-requires c κs = search needs
+
 create-requires : tie.Need-create-requires
-create-requires c κs = search (sized-places, sized-objects, takes-small, needs)
+create-requires c κs =
+    let checked = c .before .before .before .before .before .before .before .before .before in
+    let asked = checked .before .before .before .before .before .before .before in
+    let called = asked .before .before .before .before .before .pre in (
+      sized-places called,
+      sized-objects called,
+      asked .domain .ensures .1,
+      takes-small called (asked .domain .ensures .0) (checked .check .ensures) (c .before .before .before .before .before .before .before .number .given .1),
+      omega arith,
+    )
 
 same-length : tie.Need-same-length
 same-length c = search needs
@@ -47,14 +70,15 @@ same-length-4 c = search needs
 
 returns-2 : tie.Need-returns-2
 returns-2 c =
-    let loaded = c .before .before .before .before .before .before .before in
+    let named = c .before .before .before .before .before .before .before .before in
+    let loaded = named .before in
     let checked = loaded .before .before .before .before .before in
     let asked = checked .before .before .before in
     let bound = asked .before .before .before in
     λ call is-caller is-first is-second is-third is-fourth.
     sc-granted (bound .before .before .before .before .before .before .pre) (bound .before .domain .ensures .0) is-caller is-first is-second is-third is-fourth (bound .before .before .before .before .before .before .fits .qpd .fits)
     (bound .object-place .ensures .0) (asked .is-permitted .ensures) (checked .check .ensures) (loaded .before .before .before .number .given .1)
-    (loaded .load .ensures) (c .before .before .before .before .create .ensures)
+    (loaded .load .ensures) (c .before .before .before .before .before .number2 .ensures ∙ named .named-by .ensures) (c .before .before .before .before .create .ensures)
 
 pub create-sc-spec : {M : Type 1} → statement M
 create-sc-spec =
@@ -67,6 +91,8 @@ create-sc-spec =
     enum-known-reply
     enum-known-number
     load-requires
+    named-by-requires
+    number-requires
     create-requires
     same-length
     same-length-2

@@ -55,27 +55,21 @@ returns c objects = c .word .ensures ∙
 largest-order-requires : tie.Need-largest-order-requires
 largest-order-requires c κs = (c .before .before .before .before .before .before .before .pre .0, base-inside (c .before .before .before))
 
-number-requires : tie.Need-number-requires
-number-requires c κs = search needs
-
-round-down-requires : tie.Need-round-down-requires
-round-down-requires c κs = search needs
-
-nth-requires : tie.Need-nth-requires
-nth-requires c κs = omega (arith, base-inside (c .before .before .before .before .before .before))
+rounded-down-requires : tie.Need-rounded-down-requires
+rounded-down-requires c κs = search needs
 
 selector-requires : tie.Need-selector-requires
 selector-requires c κs = search needs
 
 -- the range begins where the base's place is rounded down to
 begins : (c : tie.After-selector) →
-    let ordered = c .before .before .before .before in
+    let ordered = c .before .before in
     c .selector .result .0 ≡ selectorOf (rounded (ordered .largest-order .result) (ordered .before .before .before .before .of .result .0))
-begins c = rw (c .before .nth .ensures, c .before .before .round-down .ensures, c .before .before .before .number .ensures) at (c .selector .ensures)
+begins c = rw (c .before .rounded-down .ensures) at (c .selector .ensures)
 
 of-requires-2 : tie.Need-of-requires-2
 of-requires-2 c κs =
-    let ordered = c .before .before .before .before in
+    let ordered = c .before .before in
     let loaded = ordered .before .before .before in
     let placed = loaded .before in
     let mask-small = placed .before .before .before .before .pre .3 (placed .of .result .0) (base-inside placed) in
@@ -86,7 +80,7 @@ word-requires-2 c κs = search needs
 
 returns-2 : tie.Need-returns-2
 returns-2 c =
-    let ordered = c .before .before .before .before .before .before in
+    let ordered = c .before .before .before .before in
     let lived = ordered .before .before in
     let loaded = lived .before in
     range-found (is-base loaded) (ordered .largest-order .ensures .1) (sym (lived .is-live .ensures) ∙ not-false _ (ordered .before .if1 .left))
@@ -104,9 +98,7 @@ found-spec =
     word-requires
     returns
     largest-order-requires
-    number-requires
-    round-down-requires
-    nth-requires
+    rounded-down-requires
     selector-requires
     of-requires-2
     word-requires-2

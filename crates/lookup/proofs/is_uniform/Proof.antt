@@ -15,25 +15,19 @@ use Rattle.lookup.proofs.is_uniform.Tie as tie
 
 abbrev Inv-loop : tie.InvT-loop
 Inv-loop places order first size permissions resource offset₀ offset =
-    (offset ≤ size) × (allBelow offset (continuedAt (capAt places) first permissions resource) ≡ true)
+    (offset ≤ size) × (allBelow offset (continuedAt (capAt places) (first .0) permissions resource) ≡ true)
 
 abbrev μ-loop : tie.MeasureT-loop
 μ-loop places order first size permissions resource offset₀ offset = size - offset
 
-number-requires : tie.Need-number-requires Inv-loop μ-loop
-number-requires c κs = search needs
-
-round-down-requires : tie.Need-round-down-requires Inv-loop μ-loop
-round-down-requires c κs = omega arith
+rounded-down-requires : tie.Need-rounded-down-requires Inv-loop μ-loop
+rounded-down-requires c κs = omega arith
 
 size-requires : tie.Need-size-requires Inv-loop μ-loop
 size-requires c κs = omega arith
 
 load-requires : tie.Need-load-requires Inv-loop μ-loop
 load-requires c κs = search needs
-
-nth-requires : tie.Need-nth-requires Inv-loop μ-loop
-nth-requires c κs = omega arith
 
 load-requires-2 : tie.Need-load-requires-2 Inv-loop μ-loop
 load-requires-2 c κs = omega arith
@@ -44,36 +38,31 @@ loop-holds c = (omega arith, refl)
 
 -- the loop's place is a place
 in-range : (c : tie.In-loop Inv-loop μ-loop) →
-    let rounded-down = c .before .before .before .before .before .before in
-    rounded-down .round-down .result + c .before .loop .offset < placeCount
+    c .before .before .before .before .before .rounded-down .result .0 + c .before .loop .offset < placeCount
 in-range c =
-    let rounded-down = c .before .before .before .before .before .before in
-    let given = rounded-down .before .before .before .args in
-    rw (rounded-down .round-down .ensures, rounded-down .before .number .ensures)
+    let rounds = c .before .before .before .before .before in
+    let given = rounds .before .before .args in
+    rw (rounds .rounded-down .ensures)
     (range-places (given .order) (given .place .0) (c .before .loop .offset) (omega arith) (omega arith) (omega arith))
 
 -- the range that the loop goes through
 around : (c : tie.After-load2 Inv-loop μ-loop) →
-    let loaded = c .before .before in
-    let rounded-down = loaded .before .before in
-    let given = rounded-down .before .before .before .args in
-    Around (capAt (now (given .places))) (given .place .0) (given .order) (rounded-down .round-down .result) (loaded .before .size .result)
+    let loaded = c .before in
+    let rounds = loaded .before .before in
+    let given = rounds .before .before .args in
+    Around (capAt (now (given .places))) (given .place .0) (given .order) (rounds .rounded-down .result .0) (loaded .before .size .result)
     (loaded .load .result .permissions) (c .load2 .result .resource)
 around c =
-    let loaded = c .before .before in
-    let rounded-down = loaded .before .before in
+    let loaded = c .before in
     record {
-      is-first = rw (rounded-down .before .number .ensures) at (rounded-down .round-down .ensures);
+      is-first = loaded .before .before .rounded-down .ensures;
       is-size = loaded .before .size .ensures;
       is-permissions = ap (λ (cap : Cap). cap .permissions) (loaded .load .ensures);
-      is-resource = rw (c .before .nth .ensures) at (ap (λ (cap : Cap). cap .resource) (c .load2 .ensures));
+      is-resource = ap (λ (cap : Cap). cap .resource) (c .load2 .ensures);
     }
 
-add-nth : tie.Need-add-nth Inv-loop μ-loop
-add-nth c = omega (arith, in-range c)
-
-nth-requires-2 : tie.Need-nth-requires-2 Inv-loop μ-loop
-nth-requires-2 c κs = in-range c
+after-requires : tie.Need-after-requires Inv-loop μ-loop
+after-requires c κs = in-range c
 
 load-requires-3 : tie.Need-load-requires-3 Inv-loop μ-loop
 load-requires-3 c κs = search (in-range (c .before), needs)
@@ -84,7 +73,7 @@ continues-requires c κs = search needs
 returns : tie.Need-returns Inv-loop μ-loop
 returns c =
     let loaded = c .before .before in
-    breaks (around (loaded .before .before .before .before)) (loaded .before .before .loop-test .taken) (rw (loaded .before .nth2 .ensures) at (loaded .load3 .ensures))
+    breaks (around (loaded .before .before .before .before)) (loaded .before .before .loop-test .taken) (rw (loaded .before .after .ensures) at (loaded .load3 .ensures))
     (sym (c .before .continues .ensures) ∙ not-true _ (c .if1 .taken))
 
 add-offset : tie.Need-add-offset Inv-loop μ-loop
@@ -98,7 +87,7 @@ loop-again c =
     let loaded = c .before .before in
     let loop = loaded .before .before .before in
     let continues = sym (c .before .continues .ensures) ∙ not-false _ (c .if1 .left) in
-    (omega arith, one-more (around (loop .before)) _ (rw (loaded .before .nth2 .ensures) at (loaded .load3 .ensures)) continues (loop .loop .inv .1))
+    (omega arith, one-more (around (loop .before)) _ (rw (loaded .before .after .ensures) at (loaded .load3 .ensures)) continues (loop .loop .inv .1))
 
 returns-2 : tie.Need-returns-2 Inv-loop μ-loop
 returns-2 c = all-continue (around (c .before .before)) (omega arith) (c .before .loop .inv .1)
@@ -109,15 +98,12 @@ is-uniform-spec =
     (tie.spec
     Inv-loop
     μ-loop
-    number-requires
-    round-down-requires
+    rounded-down-requires
     size-requires
     load-requires
-    nth-requires
     load-requires-2
     loop-holds
-    add-nth
-    nth-requires-2
+    after-requires
     load-requires-3
     continues-requires
     returns

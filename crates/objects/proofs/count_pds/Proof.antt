@@ -22,14 +22,15 @@ isPd table r = eqb (objectAt table r kindWord) PD
 
 -- what the loop's record adds to the count of the PDs before it
 module _ (table : List ℕ) (number count : ℕ) (so-far : count ≡ countBelow number (isPd table)) where
-  more : objectAt table number kindWord ≡ PD → count + 1 ≡ countBelow (number + 1) (isPd table)
-  more e = rw so-far (sym (count-more number (isPd table) (eq-eqb (objectAt table number kindWord) PD e)))
-
-  same : (objectAt table number kindWord ≡ PD → ⊥) → count ≡ countBelow (number + 1) (isPd table)
-  same n = so-far ∙ sym (count-same number (isPd table) (ne-eqb (objectAt table number kindWord) PD n))
-
   past : number ≡ records → count ≡ pdCount table
   past e = rw e at so-far
+
+  module _ {counted kind : ℕ} (is-counted : counted ≡ number) (is-kind : kind ≡ objectAt table counted kindWord) where
+    more : kind ≡ PD → count + 1 ≡ countBelow (number + 1) (isPd table)
+    more e = rw so-far (sym (count-more number (isPd table) (eq-eqb (objectAt table number kindWord) PD (sym (rw is-counted at is-kind) ∙ e))))
+
+    same : (kind ≡ PD → ⊥) → count ≡ countBelow (number + 1) (isPd table)
+    same n = so-far ∙ sym (count-same number (isPd table) (ne-eqb (objectAt table number kindWord) PD (λ e. n (rw is-counted at is-kind ∙ e))))
 
 abbrev Inv-loop : tie.InvT-loop
 Inv-loop table count₀ number₀ count number = (number ≤ records) × (count ≤ number) × (count ≡ countBelow number (isPd table))
@@ -41,8 +42,11 @@ loop-holds : tie.Need-loop-holds Inv-loop μ-loop
 unfolding countBelow
 loop-holds c = (omega arith, omega arith, refl)
 
-kind-at-requires : tie.Need-kind-at-requires Inv-loop μ-loop
-kind-at-requires c κs = search needs
+counted-requires : tie.Need-counted-requires Inv-loop μ-loop
+counted-requires c κs = search needs
+
+load-requires : tie.Need-load-requires Inv-loop μ-loop
+load-requires c κs = search needs
 
 add-count : tie.Need-add-count Inv-loop μ-loop
 add-count c = search needs
@@ -55,8 +59,11 @@ loop-less c = search needs
 
 loop-again : tie.Need-loop-again Inv-loop μ-loop
 loop-again c =
-    let so-far = c .before .before .before .loop .inv .2 in
-    ⊎-elim (λ w. omega (arith, more _ _ _ so-far (omega arith))) (λ w. omega (arith, same _ _ _ so-far (omega arith))) (c .if1 .came)
+    let loaded = c .before in
+    let so-far = loaded .before .before .before .loop .inv .2 in
+    let is-counted = loaded .before .counted .ensures in
+    ⊎-elim (λ w. omega (arith, more _ _ _ so-far is-counted (loaded .load .ensures) (w .0 .taken)))
+    (λ w. omega (arith, same _ _ _ so-far is-counted (loaded .load .ensures) (w .0 .left))) (c .if1 .came)
 
 returns : tie.Need-returns Inv-loop μ-loop
 returns c = past _ _ _ (c .before .loop .inv .2) (omega arith)
@@ -68,7 +75,8 @@ count-pds-spec =
     Inv-loop
     μ-loop
     loop-holds
-    kind-at-requires
+    counted-requires
+    load-requires
     add-count
     add-number
     loop-less

@@ -8,6 +8,10 @@ use lib.Dec.{eqb}
 use borrow.Author.Needs.{needs}
 use borrow.Author.Tests.{eq-eqb, ne-eqb}
 use Rattle.words.specs.Sizes.{records}
+use Rattle.descriptor.specs.declared.ObjectNumber.{ObjectNumber}
+use Rattle.descriptor.specs.declared.FoundObject.the-variants.{Numbered, Beyond}
+use Rattle.descriptor.specs.Numbers.{numbered}
+use Rattle.descriptor.proofs.DescriptorLaws.{numbered-so, numbered-beyond}
 use Rattle.interface.specs.Basics.{lowest}
 use Rattle.interface.specs.Places.{free, kindWord, objectAt}
 use Rattle.objects.specs.Records.{lowestFree}
@@ -21,14 +25,20 @@ isFree table r = eqb (objectAt table r kindWord) free
 
 -- what the loop's record tells where none before it is free
 module _ (table : List ℕ) (number : ℕ) (none : lowest number (isFree table) ≡ number) where
-  found : number < records → objectAt table number kindWord ≡ free → number ≡ lowestFree table
-  found l e = sym (lowest-found number (isFree table) records l none (eq-eqb (objectAt table number kindWord) free e))
+  past : number ≡ records → Beyond ≡ numbered (lowestFree table)
+  past e = sym (numbered-beyond (lowestFree table) (omega (arith, rw e at none)))
 
-  more : (objectAt table number kindWord ≡ free → ⊥) → lowest (number + 1) (isFree table) ≡ number + 1
-  more n = lowest-none number (isFree table) none (ne-eqb (objectAt table number kindWord) free n)
+  module _ {record-number : ObjectNumber} {kind : ℕ} (is-counted : record-number .0 ≡ number) (is-kind : kind ≡ objectAt table (record-number .0) kindWord) where
+    found : number < records → kind ≡ free → Numbered record-number ≡ numbered (lowestFree table)
+    found l e =
+        let is-free : objectAt table number kindWord ≡ free = sym (rw is-counted at is-kind) ∙ e in
+        let lowest-is = lowest-found number (isFree table) records l none (eq-eqb (objectAt table number kindWord) free is-free) in
+        rw (lowest-is, ← is-counted) (sym (numbered-so (record-number .0) (omega arith)))
 
-  past : number ≡ records → number ≡ lowestFree table
-  past e = e ∙ sym (rw e at none)
+    more : (kind ≡ free → ⊥) → lowest (number + 1) (isFree table) ≡ number + 1
+    more n =
+        lowest-none number (isFree table) none
+        (ne-eqb (objectAt table number kindWord) free (λ e. n (rw is-counted at is-kind ∙ e)))
 
 abbrev Inv-loop : tie.InvT-loop
 Inv-loop table number₀ number = (number ≤ records) × (lowest number (isFree table) ≡ number)
@@ -40,11 +50,16 @@ loop-holds : tie.Need-loop-holds Inv-loop μ-loop
 unfolding lowest
 loop-holds c = (omega arith, refl)
 
-kind-at-requires : tie.Need-kind-at-requires Inv-loop μ-loop
-kind-at-requires c κs = search needs
+counted-requires : tie.Need-counted-requires Inv-loop μ-loop
+counted-requires c κs = search needs
+
+load-requires : tie.Need-load-requires Inv-loop μ-loop
+load-requires c κs = search needs
 
 returns : tie.Need-returns Inv-loop μ-loop
-returns c = found _ _ (c .before .before .before .loop .inv .1) (omega arith) (omega arith)
+returns c =
+    let loaded = c .before in
+    found _ _ (loaded .before .before .before .loop .inv .1) (loaded .before .counted .ensures) (loaded .load .ensures) (omega arith) (c .if1 .taken)
 
 add-number : tie.Need-add-number Inv-loop μ-loop
 add-number c = search needs
@@ -53,7 +68,9 @@ loop-less : tie.Need-loop-less Inv-loop μ-loop
 loop-less c = search needs
 
 loop-again : tie.Need-loop-again Inv-loop μ-loop
-loop-again c = (omega arith, more _ _ (c .before .before .before .loop .inv .1) (omega arith))
+loop-again c =
+    let loaded = c .before in
+    (omega arith, more _ _ (loaded .before .before .before .loop .inv .1) (loaded .before .counted .ensures) (loaded .load .ensures) (c .if1 .left))
 
 returns-2 : tie.Need-returns-2 Inv-loop μ-loop
 returns-2 c = past _ _ (c .before .loop .inv .1) (omega arith)
@@ -65,7 +82,8 @@ free-record-spec =
     Inv-loop
     μ-loop
     loop-holds
-    kind-at-requires
+    counted-requires
+    load-requires
     returns
     add-number
     loop-less

@@ -6,20 +6,14 @@ use Rattle.objects.proofs.RecordTableLaws.{object-at-word}
 use Rattle.objects.proofs.load.Statement.{statement}
 use Rattle.objects.proofs.load.Tie as tie
 
-number-requires : tie.Need-number-requires
-number-requires c κs = search needs
-
-cast-result : tie.Need-cast-result
-cast-result c = search needs
-
-mul-result : tie.Need-mul-result
-mul-result c = search needs
+words-start-requires : tie.Need-words-start-requires
+words-start-requires c κs = search needs
 
 add-result : tie.Need-add-result
 add-result c = search needs
 
-mul-result-2 : tie.Need-mul-result-2
-mul-result-2 c = search needs
+mul-result : tie.Need-mul-result
+mul-result c = search needs
 
 shared-slice-read-result : tie.Need-shared-slice-read-result
 shared-slice-read-result c = search needs
@@ -27,16 +21,9 @@ shared-slice-read-result c = search needs
 returns : tie.Need-returns
 returns c =
     let given = c .before .before .before .args in
-    rw (c .before .number .ensures) (object-at-word (now (given .table)) (given .number .0) (given .index) (omega arith))
+    rw (c .before .words-start .ensures) (object-at-word (now (given .table)) (given .number .0) (given .index) (omega arith))
 
 pub load-spec : {M : Type 1} → statement M
 load-spec =
     tie.close
-    (tie.spec
-    number-requires
-    cast-result
-    mul-result
-    add-result
-    mul-result-2
-    shared-slice-read-result
-    returns)
+    (tie.spec words-start-requires add-result mul-result shared-slice-read-result returns)

@@ -7,14 +7,8 @@ use Rattle.objects.proofs.RecordTableLaws.{made}
 use Rattle.objects.proofs.make.Statement.{statement}
 use Rattle.objects.proofs.make.Tie as tie
 
-number-requires : tie.Need-number-requires
-number-requires c κs = search needs
-
-cast-at : tie.Need-cast-at
-cast-at c = search needs
-
-mul-at : tie.Need-mul-at
-mul-at c = search needs
+words-start-requires : tie.Need-words-start-requires
+words-start-requires c κs = search needs
 
 mul-table : tie.Need-mul-table
 mul-table c = search needs
@@ -64,16 +58,14 @@ same-length c = search needs
 returns : tie.Need-returns
 returns c =
     let given = c .before .before .args in
-    rw (c .number .ensures)
+    rw (c .words-start .ensures)
     (made (now (given .table)) (given .number .0) (omega arith) (omega arith) (given .kind) (given .first) (given .second) (given .third) (given .fourth))
 
 pub make-spec : {M : Type 1} → statement M
 make-spec =
     tie.close
     (tie.spec
-    number-requires
-    cast-at
-    mul-at
+    words-start-requires
     mul-table
     slice-write-table
     add-table

@@ -6,20 +6,14 @@ use Rattle.objects.proofs.RecordTableLaws.{counted}
 use Rattle.objects.proofs.set_count.Statement.{statement}
 use Rattle.objects.proofs.set_count.Tie as tie
 
-number-requires : tie.Need-number-requires
-number-requires c κs = search needs
-
-cast-table : tie.Need-cast-table
-cast-table c = search needs
-
-mul-table : tie.Need-mul-table
-mul-table c = search needs
+words-start-requires : tie.Need-words-start-requires
+words-start-requires c κs = search needs
 
 add-table : tie.Need-add-table
 add-table c = search needs
 
-mul-table-2 : tie.Need-mul-table-2
-mul-table-2 c = search needs
+mul-table : tie.Need-mul-table
+mul-table c = search needs
 
 slice-write-table : tie.Need-slice-write-table
 slice-write-table c = search needs
@@ -30,17 +24,9 @@ same-length c = search needs
 returns : tie.Need-returns
 returns c =
     let given = c .before .before .args in
-    rw (c .number .ensures) (counted (now (given .table)) (given .number .0) (omega arith) (omega arith) (given .value))
+    rw (c .words-start .ensures) (counted (now (given .table)) (given .number .0) (omega arith) (omega arith) (given .value))
 
 pub set-count-spec : {M : Type 1} → statement M
 set-count-spec =
     tie.close
-    (tie.spec
-    number-requires
-    cast-table
-    mul-table
-    add-table
-    mul-table-2
-    slice-write-table
-    same-length
-    returns)
+    (tie.spec words-start-requires add-table mul-table slice-write-table same-length returns)

@@ -31,14 +31,11 @@ returns c =
     given-none (loaded .load .ensures) (kept .before .load2 .ensures) (kept .keep .ensures) (lived .before .before .is-live .ensures) (lived .is-live2 .ensures)
     (loaded .before .before .before .pre .0) (c .if1 .taken)
 
-number-requires : tie.Need-number-requires
-number-requires c κs = search needs
+link-requires : tie.Need-link-requires
+link-requires c κs = search needs
 
 add-t25 : tie.Need-add-t25
-add-t25 c = omega arith
-
-add-t26 : tie.Need-add-t26
-add-t26 c = search (next-depth-fits, needs)
+add-t25 c = search (next-depth-fits, needs)
 
 store-requires : tie.Need-store-requires
 store-requires c κs = search needs
@@ -52,7 +49,7 @@ returns-2 c =
     let lived = tested .before in
     let kept = lived .before .before .before in
     given-one (kept .before .before .before .load .ensures) (kept .before .load2 .ensures) (kept .keep .ensures) (lived .before .before .is-live .ensures)
-    (lived .is-live2 .ensures) (c .before .before .before .before .number .ensures) (tested .if1 .left) (c .before .before .store .ensures)
+    (lived .is-live2 .ensures) (c .before .before .before .before .link .ensures) (tested .if1 .left) (c .before .before .store .ensures)
 
 pub give-spec : {M : Type 1} → statement M
 give-spec =
@@ -65,9 +62,8 @@ give-spec =
     is-live-requires-2
     same-length
     returns
-    number-requires
+    link-requires
     add-t25
-    add-t26
     store-requires
     same-length-2
     returns-2)

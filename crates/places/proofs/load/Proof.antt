@@ -5,20 +5,14 @@ use Rattle.places.proofs.CapTableLaws.{loaded}
 use Rattle.places.proofs.load.Statement.{statement}
 use Rattle.places.proofs.load.Tie as tie
 
-number-requires : tie.Need-number-requires
-number-requires c κs = search needs
+words-start-requires : tie.Need-words-start-requires
+words-start-requires c κs = search needs
 
-cast-at : tie.Need-cast-at
-cast-at c = omega arith
+mul-t4 : tie.Need-mul-t4
+mul-t4 c = search needs
 
-mul-at : tie.Need-mul-at
-mul-at c = omega arith
-
-mul-t5 : tie.Need-mul-t5
-mul-t5 c = omega arith
-
-shared-slice-read-t4 : tie.Need-shared-slice-read-t4
-shared-slice-read-t4 c = omega arith
+shared-slice-read-t6 : tie.Need-shared-slice-read-t6
+shared-slice-read-t6 c = search needs
 
 add-t7 : tie.Need-add-t7
 add-t7 c = omega arith
@@ -48,17 +42,15 @@ shared-slice-read-t18 : tie.Need-shared-slice-read-t18
 shared-slice-read-t18 c = omega arith
 
 returns : tie.Need-returns
-returns c = loaded _ _ _ (c .before .before .before .before .number .ensures)
+returns c = loaded _ _ _ (c .before .before .before .before .words-start .ensures)
 
 pub load-spec : {M : Type 1} → statement M
 load-spec =
     tie.close
     (tie.spec
-    number-requires
-    cast-at
-    mul-at
-    mul-t5
-    shared-slice-read-t4
+    words-start-requires
+    mul-t4
+    shared-slice-read-t6
     add-t7
     mul-t8
     shared-slice-read-t10

@@ -6,14 +6,8 @@ use Rattle.places.proofs.CapTableLaws.{stored}
 use Rattle.places.proofs.store.Statement.{statement}
 use Rattle.places.proofs.store.Tie as tie
 
-number-requires : tie.Need-number-requires
-number-requires c κs = search needs
-
-cast-at : tie.Need-cast-at
-cast-at c = omega arith
-
-mul-at : tie.Need-mul-at
-mul-at c = omega arith
+words-start-requires : tie.Need-words-start-requires
+words-start-requires c κs = search needs
 
 mul-table : tie.Need-mul-table
 mul-table c = omega arith
@@ -52,15 +46,13 @@ same-length : tie.Need-same-length
 same-length c = simp length-set
 
 returns : tie.Need-returns
-returns c = stored _ _ _ _ (c .number .ensures) (c .before .before .pre .0) (c .before .before .pre .1)
+returns c = stored _ _ _ _ (c .words-start .ensures) (c .before .before .pre .0) (c .before .before .pre .1)
 
 pub store-spec : {M : Type 1} → statement M
 store-spec =
     tie.close
     (tie.spec
-    number-requires
-    cast-at
-    mul-at
+    words-start-requires
     mul-table
     slice-write-table
     add-table

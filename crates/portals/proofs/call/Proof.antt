@@ -6,7 +6,7 @@ use mathlib.Core.Bool.{true}
 use native.Mathlib.Omega.{arith}
 use denote.Ref.{now}
 use borrow.Author.Needs.{needs}
-use borrow.Author.Tests.{not-true, not-false}
+use borrow.Author.Tests.{eqb-true, eqb-false, not-true, not-false}
 use Rattle.interface.specs.Basics.{word}
 use Rattle.interface.specs.Places.{Cap, PT, ecWord, cpuWord, callBit, permitted, objectAt, view}
 use Rattle.interface.specs.Message.{payloadFits}
@@ -58,11 +58,11 @@ allowed c = sym (c .before .is-permitted .ensures) ∙ not-false _ (c .if3 .left
 load-requires : tie.Need-load-requires
 load-requires c κs = (sized-places (c .before .before .before .before .before .before .before .before .before .before .before .before .before .pre), c .before .before .before .before .object-place .ensures .1)
 
-nth-requires : tie.Need-nth-requires
-nth-requires c κs = portal-record (lengths (c .before .before .before .before .before)) (allowed (c .before .before)) (c .load .ensures)
+named-by-requires : tie.Need-named-by-requires
+named-by-requires c κs = portal-record (lengths (c .before .before .before .before .before)) (allowed (c .before .before)) (c .load .ensures)
 
 load-requires-2 : tie.Need-load-requires-2
-load-requires-2 c κs = (sized-objects (c .before .before .before .before .before .before .before .before .before .before .before .before .before .before .before .pre), rw (c .nth .ensures) (nth-requires (c .before) _), omega arith)
+load-requires-2 c κs = (sized-objects (c .before .before .before .before .before .before .before .before .before .before .before .before .before .before .before .pre), rw (c .named-by .ensures) (named-by-requires (c .before) _), omega arith)
 
 -- the call may use its portal, whose EC is read
 permits : (c : tie.After-load2) →
@@ -75,54 +75,51 @@ permits c =
       is-callee =
           c .load2 .ensures ∙
           ap (λ (n : ℕ). objectAt (now (c .before .before .before .before .before .before .before .before .before .before .before .before .before .before .before .before .args .objects)) n ecWord)
-          (c .before .nth .ensures ∙ ap (λ (cap : Cap). cap .resource) (c .before .before .load .ensures));
+          (c .before .named-by .ensures ∙ ap (λ (cap : Cap). cap .resource) (c .before .before .load .ensures));
     }
 
-nth-requires-2 : tie.Need-nth-requires-2
-nth-requires-2 c κs = callee-small (permits c)
+bound-by-requires : tie.Need-bound-by-requires
+bound-by-requires c κs = callee-small (permits c)
 
 -- the callee
-has-callee : (c : tie.After-nth2) →
+has-callee : (c : tie.After-bound-by) →
     let given = c .before .before .before .before .before .before .before .before .before .before .before .before .before .before .before .before .before .args in
-    Permitted (now (given .places)) (now (given .objects)) (now (given .source)) (now (given .target)) (given .caller .0) (given .selector) (c .before .before .before .before .before .before .before .before .object-place .result .0) (c .nth2 .result .0)
-has-callee c = rw (c .nth2 .ensures) (permits (c .before))
+    Permitted (now (given .places)) (now (given .objects)) (now (given .source)) (now (given .target)) (given .caller .0) (given .selector) (c .before .before .before .before .before .before .before .before .object-place .result .0) (c .bound-by .result .0)
+has-callee c = rw (c .bound-by .ensures) (permits (c .before))
 
-number-requires : tie.Need-number-requires
-number-requires c κs = search needs
-
-number-requires-2 : tie.Need-number-requires-2
-number-requires-2 c κs = search needs
+is-requires : tie.Need-is-requires
+is-requires c κs = search needs
 
 same-length-2 : tie.Need-same-length-2
 same-length-2 c = search needs
 
 returns-4 : tie.Need-returns-4
-returns-4 c = calls-itself (has-callee (c .before .before .before)) (sym (c .before .before .number .ensures) ∙ c .if4 .taken ∙ c .before .number2 .ensures)
+returns-4 c = calls-itself (has-callee (c .before .before)) (eqb-true _ _ (sym (c .before .is .ensures) ∙ c .if4 .taken))
 
 -- it is not the caller
-apart : (c : tie.Else4) → c .before .before .before .nth2 .result .0 ≢ c .before .before .before .before .before .before .before .before .before .before .before .before .before .before .before .before .before .before .before .before .args .caller .0
-apart c same = c .if4 .left (c .before .before .number .ensures ∙ same ∙ sym (c .before .number2 .ensures))
+apart : (c : tie.Else4) → c .before .before .bound-by .result .0 ≢ c .before .before .before .before .before .before .before .before .before .before .before .before .before .before .before .before .before .before .before .args .caller .0
+apart c = eqb-false _ _ (sym (c .before .is .ensures) ∙ c .if4 .left)
 
 load-requires-3 : tie.Need-load-requires-3
-load-requires-3 c κs = (sized-objects (c .before .before .before .before .before .before .before .before .before .before .before .before .before .before .before .before .before .before .before .before .pre), callee-small (has-callee (c .before .before .before)), omega arith)
+load-requires-3 c κs = (sized-objects (c .before .before .before .before .before .before .before .before .before .before .before .before .before .before .before .before .before .before .before .pre), callee-small (has-callee (c .before .before)), omega arith)
 
 load-requires-4 : tie.Need-load-requires-4
-load-requires-4 c κs = (sized-objects (c .before .before .before .before .before .before .before .before .before .before .before .before .before .before .before .before .before .before .before .before .before .pre), caller-small (c .before .before .before .before .before .before .before .before .before .before .before .before .before .before .before .before .before .before .before .before .before .pre), omega arith)
+load-requires-4 c κs = (sized-objects (c .before .before .before .before .before .before .before .before .before .before .before .before .before .before .before .before .before .before .before .before .pre), caller-small (c .before .before .before .before .before .before .before .before .before .before .before .before .before .before .before .before .before .before .before .before .pre), omega arith)
 
 same-length-3 : tie.Need-same-length-3
 same-length-3 c = search needs
 
 returns-5 : tie.Need-returns-5
-returns-5 c = other-cpu (has-callee (c .before .before .before .before .before .before)) (apart (c .before .before .before)) (λ same. c .if5 .taken (c .before .before .load3 .ensures ∙ same ∙ sym (c .before .load4 .ensures)))
+returns-5 c = other-cpu (has-callee (c .before .before .before .before .before)) (apart (c .before .before .before)) (λ same. c .if5 .taken (c .before .before .load3 .ensures ∙ same ∙ sym (c .before .load4 .ensures)))
 
 -- both are on one CPU
 one-cpu : (c : tie.Else5) →
-    let objects = now (c .before .before .before .before .before .before .before .before .before .before .before .before .before .before .before .before .before .before .before .before .before .before .before .args .objects) in
-    objectAt objects (c .before .before .before .before .before .before .nth2 .result .0) cpuWord ≡ objectAt objects (c .before .before .before .before .before .before .before .before .before .before .before .before .before .before .before .before .before .before .before .before .before .before .before .args .caller .0) cpuWord
+    let objects = now (c .before .before .before .before .before .before .before .before .before .before .before .before .before .before .before .before .before .before .before .before .before .before .args .objects) in
+    objectAt objects (c .before .before .before .before .before .bound-by .result .0) cpuWord ≡ objectAt objects (c .before .before .before .before .before .before .before .before .before .before .before .before .before .before .before .before .before .before .before .before .before .before .args .caller .0) cpuWord
 one-cpu c = sym (c .before .before .load3 .ensures) ∙ c .if5 .left ∙ c .before .load4 .ensures
 
 shared-slice-read-payload-fits : tie.Need-shared-slice-read-payload-fits
-shared-slice-read-payload-fits c = omega (arith, lengths (c .before .before .before .before .before .before .before .before .before .before .before .before .before .before .before) .source-length)
+shared-slice-read-payload-fits c = omega (arith, lengths (c .before .before .before .before .before .before .before .before .before .before .before .before .before .before) .source-length)
 
 payload-fits-requires : tie.Need-payload-fits-requires
 payload-fits-requires c κs = search needs
@@ -131,22 +128,22 @@ same-length-4 : tie.Need-same-length-4
 same-length-4 c = search needs
 
 returns-6 : tie.Need-returns-6
-returns-6 c = too-long (has-callee (c .before .before .before .before .before .before .before .before .before)) (apart (c .before .before .before .before .before .before)) (one-cpu (c .before .before .before)) (sym (c .before .payload-fits .ensures) ∙ not-true _ (c .if6 .taken))
+returns-6 c = too-long (has-callee (c .before .before .before .before .before .before .before .before)) (apart (c .before .before .before .before .before .before)) (one-cpu (c .before .before .before)) (sym (c .before .payload-fits .ensures) ∙ not-true _ (c .if6 .taken))
 
 -- the counts fit
-fits : (c : tie.Else6) → payloadFits (word (now (c .before .before .before .before .before .before .before .before .before .before .before .before .before .before .before .before .before .before .before .before .before .before .before .before .before .before .args .source)) 0) ≡ true
+fits : (c : tie.Else6) → payloadFits (word (now (c .before .before .before .before .before .before .before .before .before .before .before .before .before .before .before .before .before .before .before .before .before .before .before .before .before .args .source)) 0) ≡ true
 fits c = sym (c .before .payload-fits .ensures) ∙ not-false _ (c .if6 .left)
 
 load-requires-5 : tie.Need-load-requires-5
-load-requires-5 c κs = (sized-objects (c .before .before .before .before .before .before .before .before .before .before .before .before .before .before .before .before .before .before .before .before .before .before .before .before .before .before .pre), callee-small (has-callee (c .before .before .before .before .before .before .before .before .before)), omega arith)
+load-requires-5 c κs = (sized-objects (c .before .before .before .before .before .before .before .before .before .before .before .before .before .before .before .before .before .before .before .before .before .before .before .before .before .pre), callee-small (has-callee (c .before .before .before .before .before .before .before .before)), omega arith)
 
 message-requires : tie.Need-message-requires
 message-requires c κs =
-    let called = c .before .before .before .before .before .before .before .before .before .before .before .before .before .before .before .before .before .before .before .before .before .before .before .before .before .before .before .before .before .pre in
-    let callee = has-callee (c .before .before .before .before .before .before .before .before .before .before .before .before) in (
+    let called = c .before .before .before .before .before .before .before .before .before .before .before .before .before .before .before .before .before .before .before .before .before .before .before .before .before .before .before .before .pre in
+    let callee = has-callee (c .before .before .before .before .before .before .before .before .before .before .before) in (
       sized-places called,
       sound-live _ (called-sound called),
-      c .before .before .before .before .before .before .before .before .before .before .before .before .before .before .before .before .before .before .before .before .before .domain .ensures .1,
+      c .before .before .before .before .before .before .before .before .before .before .before .before .before .before .before .before .before .before .before .before .domain .ensures .1,
       rw (c .before .before .load5 .ensures) (receiver-small callee),
       record { source-length = callee .lengths .source-length; target-length = callee .lengths .target-length; fits = fits (c .before .before .before) },
     )
@@ -159,7 +156,7 @@ same-length-6 c = search needs
 
 returns-7 : tie.Need-returns-7
 returns-7 c =
-    carries (has-callee (c .before .before .before .before .before .before .before .before .before .before .before .before .before .before .before .before .before)) (apart (c .before .before .before .before .before .before .before .before .before .before .before .before .before .before)) (one-cpu (c .before .before .before .before .before .before .before .before .before .before .before)) (fits (c .before .before .before .before .before .before .before .before)) (c .before .before .before .before .before .before .before .before .before .before .before .before .before .before .before .before .before .before .before .before .before .before .before .before .before .before .domain .ensures .0) (c .before .before .before .before .before .before .before .load5 .ensures)
+    carries (has-callee (c .before .before .before .before .before .before .before .before .before .before .before .before .before .before .before .before)) (apart (c .before .before .before .before .before .before .before .before .before .before .before .before .before .before)) (one-cpu (c .before .before .before .before .before .before .before .before .before .before .before)) (fits (c .before .before .before .before .before .before .before .before)) (c .before .before .before .before .before .before .before .before .before .before .before .before .before .before .before .before .before .before .before .before .before .before .before .before .before .domain .ensures .0) (c .before .before .before .before .before .before .before .load5 .ensures)
     (c .before .before .before .before .message .ensures)
 
 pub call-spec : {M : Type 1} → statement M
@@ -174,11 +171,10 @@ call-spec =
     same-length
     returns-3
     load-requires
-    nth-requires
+    named-by-requires
     load-requires-2
-    nth-requires-2
-    number-requires
-    number-requires-2
+    bound-by-requires
+    is-requires
     same-length-2
     returns-4
     load-requires-3

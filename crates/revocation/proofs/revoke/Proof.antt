@@ -62,23 +62,20 @@ size-requires c κs = omega (arith, c .order .ensures, is-proper (c .before .bef
 mask-requires : tie.Need-mask-requires
 mask-requires c κs = search needs
 
-number-requires : tie.Need-number-requires
-number-requires c κs = search needs
-
 -- the range's places and mask, as the code finds them
-is-aimed : (c : tie.After-number) →
-    let given = c .before .before .before .before .before .before .before .before in
-    Aimed (given .domain .result) (given .before .before .before .range .given .0 .0) (c .before .mask .result) (c .number .result)
-    (c .before .before .before .size .result)
+is-aimed : (c : tie.After-mask) →
+    let given = c .before .before .before .before .before .before .before in
+    Aimed (given .domain .result) (given .before .before .before .range .given .0 .0) (c .mask .result) (c .before .before .before .before .of .result .0)
+    (c .before .before .size .result)
 is-aimed c =
-    let sized = c .before .before .before in
+    let sized = c .before .before in
     let placed = sized .before .before in
-    aims _ (c .before .mask .ensures) (placed .before .before .space .ensures) (placed .before .at .ensures .0) (placed .of .ensures) (c .number .ensures)
+    aims _ (c .mask .ensures) (placed .before .before .space .ensures) (placed .before .at .ensures .0) (placed .of .ensures)
     (sized .before .order .ensures) (sized .size .ensures)
 
 cut-requires : tie.Need-cut-requires
 cut-requires c κs =
-    let given = c .before .before .before .before .before .before .before .before in
+    let given = c .before .before .before .before .before .before .before in
     let called = given .before .before .before .before .before .before .before .before .before .before .pre in (
       sized-places called,
       sound-linked _ (called-sound called),
@@ -101,7 +98,7 @@ same-length c = search needs
 returns-4 : tie.Need-returns-4
 returns-4 c call is-caller is-first is-second =
     let aimed = c .before .before .before in
-    let given = aimed .before .before .before .before .before .before .before .before in
+    let given = aimed .before .before .before .before .before .before .before in
     let ranged = given .before .before .before in
     let tested = ranged .before .before .before .before in
     range-revokes (tested .before .before .before .pre) (tested .if1 .left) (is-reading (ranged .before .before) ∙ ranged .range .given .1)
@@ -124,7 +121,6 @@ revoke-spec =
     order-requires
     size-requires
     mask-requires
-    number-requires
     cut-requires
     returns-2
     returns-3

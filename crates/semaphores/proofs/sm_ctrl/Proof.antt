@@ -54,12 +54,12 @@ passes c =
 load-requires : tie.Need-load-requires
 load-requires c κs = search (sized-places, needs)
 
-nth-requires : tie.Need-nth-requires
-nth-requires c κs = semaphore-record (passes (c .before)) (c .load .ensures)
+named-by-requires : tie.Need-named-by-requires
+named-by-requires c κs = semaphore-record (passes (c .before)) (c .load .ensures)
 
 -- the semaphore's number is a record's
-is-record : (c : tie.After-nth) → c .nth .result .0 < records
-is-record c = rw (c .nth .ensures) (nth-requires (c .before) _)
+is-record : (c : tie.After-named-by) → c .named-by .result .0 < records
+is-record c = rw (c .named-by .ensures) (named-by-requires (c .before) _)
 
 load-requires-2 : tie.Need-load-requires-2
 load-requires-2 c κs = (sized-objects (passes (c .before .before .before) .called), is-record (c .before), omega arith)
@@ -68,11 +68,11 @@ load-requires-2 c κs = (sized-objects (passes (c .before .before .before) .call
 counted : (c : tie.After-load2) →
     let given = c .before .before .before .before .before .before .before .before .before .before .before .before .before .args in
     Counted (now (given .places)) (now (given .objects)) (given .caller .0) (given .selector) (given .operation)
-    (c .before .before .before .before .before .before .before .object-place .result .0) (c .before .before .nth .result .0) (c .load2 .result)
+    (c .before .before .before .before .before .before .before .object-place .result .0) (c .before .before .named-by .result .0) (c .load2 .result)
 counted c =
     record {
       call = passes (c .before .before .before .before);
-      is-number = c .before .before .nth .ensures ∙ ap (λ (cap : Cap). cap .resource) (c .before .before .before .load .ensures);
+      is-number = c .before .before .named-by .ensures ∙ ap (λ (cap : Cap). cap .resource) (c .before .before .before .load .ensures);
       is-value = c .load2 .ensures;
     }
 
@@ -128,7 +128,7 @@ sm-ctrl-spec =
     same-length
     returns-2
     load-requires
-    nth-requires
+    named-by-requires
     load-requires-2
     same-length-2
     returns-3

@@ -38,11 +38,11 @@ nearest-in-requires : tie.Need-nearest-in-requires Inv-search μ-search
 nearest-in-requires c κs = let s = c .before .before .search .inv in
     (s .sized, s .linked, omega arith, c .place-at .ensures .1)
 
-sub-nth : tie.Need-sub-nth Inv-search μ-search
-sub-nth c = omega arith
+enum-known-above : tie.Need-enum-known-above Inv-search μ-search
+enum-known-above c = search needs
 
-nth-requires : tie.Need-nth-requires Inv-search μ-search
-nth-requires c κs = omega arith
+enum-told : tie.Need-enum-told Inv-search μ-search
+enum-told c = search needs
 
 selector-requires : tie.Need-selector-requires Inv-search μ-search
 selector-requires c κs = search needs
@@ -57,16 +57,15 @@ number-requires-2 : tie.Need-number-requires-2 Inv-search μ-search
 number-requires-2 c κs = search needs
 
 lies-there-requires : tie.Need-lies-there-requires Inv-search μ-search
-lies-there-requires c κs = let found = c .before .before .before .before .before .before in
+lies-there-requires c κs = let found = c .before .before .before .before .before .before .before in
     let s = found .before .before .before .search .inv in
     let small =
-    next-small s (found .before .before .search-test .taken) (found .before .place-at .ensures .0) (found .nearest-in .ensures .0)
-    (c .before .before .before .before .before .if1 .left) (c .before .before .before .before .nth .ensures) (c .before .before .before .selector .ensures)
-    (c .before .before .base-of .ensures) in
+    next-small s (found .before .before .search-test .taken) (found .before .place-at .ensures .0) (found .nearest-in .ensures)
+    (c .before .before .before .before .before .above .given .1) (c .before .before .before .selector .ensures) (c .before .before .base-of .ensures) in
     (omega arith, omega (arith, c .number2 .ensures, s .matched .item-proper .ends-inside), s .matched .window-proper)
 
 load-requires : tie.Need-load-requires Inv-search μ-search
-load-requires c κs = let placed = c .before .before .before .before .before .before .before .before .before in
+load-requires c κs = let placed = c .before .before .before .before .before .before .before .before .before .before in
     (placed .before .before .search .inv .sized, placed .place-at .ensures .1)
 
 keep-requires : tie.Need-keep-requires Inv-search μ-search
@@ -80,20 +79,20 @@ search-less c = omega arith
 
 search-again : tie.Need-search-again Inv-search μ-search
 search-again c = let based = c .before .before .before .before .before .before in
-    let found = based .before .before .before .before in
+    let found = based .before .before .before .before .before in
     let s = found .before .before .before .search .inv in
-    search-on s (found .before .before .search-test .taken) (found .before .place-at .ensures .0) (found .nearest-in .ensures .0)
-    (based .before .before .before .if1 .left) (based .before .before .nth .ensures) (based .before .selector .ensures) (based .base-of .ensures)
+    search-on s (found .before .before .search-test .taken) (found .before .place-at .ensures .0) (found .nearest-in .ensures)
+    (based .before .before .before .above .given .1) (based .before .selector .ensures) (based .base-of .ensures)
     (c .before .before .before .before .before .number .ensures) (c .before .before .before .before .number2 .ensures) (c .before .before .before .lies-there .ensures)
-    (c .before .before .if2 .left) (c .before .load .ensures) (c .keep .ensures)
+    (c .before .before .if1 .left) (c .before .load .ensures) (c .keep .ensures)
 
 returns : tie.Need-returns Inv-search μ-search
 returns c = let s = c .before .before .search .inv in
     ⊎-elim (λ w. absurd (omega (arith, w .0 .left)))
-    (⊎-elim (λ w. search-none s (w .0 .taken) (w .1 .ensures .0) (w .2 .ensures .0) (w .3 .taken))
+    (⊎-elim (λ w. search-none s (w .0 .taken) (w .1 .ensures .0) (w .2 .ensures) (w .4 .given .1))
     (λ w.
-    search-elsewhere s (w .0 .taken) (w .1 .ensures .0) (w .2 .ensures .0) (w .3 .left) (w .4 .ensures) (w .5 .ensures) (w .6 .ensures) (w .7 .ensures) (w .8 .ensures)
-    (w .9 .ensures) (w .10 .taken)))
+    search-elsewhere s (w .0 .taken) (w .1 .ensures .0) (w .2 .ensures) (w .4 .given .1) (w .6 .ensures) (w .7 .ensures) (w .8 .ensures) (w .9 .ensures) (w .10 .ensures)
+    (w .11 .taken)))
     (c .before .search-test .came)
 
 space-requires : tie.Need-space-requires Inv-search μ-search
@@ -105,7 +104,7 @@ of-requires c κs = search needs
 returns-2 : tie.Need-returns-2 Inv-search μ-search
 returns-2 c = let left = c .before .before .before in
     let s = left .before .search .inv in
-    ⊎-elim (λ w. search-shows s (c .before .before .if3 .left) (c .before .space .ensures) (rw (w .1) at (c .of .ensures)))
+    ⊎-elim (λ w. search-shows s (c .before .before .if2 .left) (c .before .space .ensures) (rw (w .1) at (c .of .ensures)))
     (⊎-elim (λ w. absurd (omega (arith, w .0 .taken))) (λ w. absurd (omega (arith, w .0 .taken)))) (left .search-test .came)
 
 pub translate-spec : {M : Type 1} → statement M
@@ -121,8 +120,8 @@ translate-spec =
     search-holds
     place-at-requires
     nearest-in-requires
-    sub-nth
-    nth-requires
+    enum-known-above
+    enum-told
     selector-requires
     base-of-requires
     number-requires

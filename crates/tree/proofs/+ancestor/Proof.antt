@@ -4,7 +4,8 @@ use native.Mathlib.Omega.{arith}
 use borrow.Author.Needs.{needs}
 use borrow.Fn.Kinds.{In}
 use borrow.Fn.PlainCycle.{Measures, is, falls, and}
-use Rattle.descriptor.proofs.Place.nth.Reads as nth-reads
+use Rattle.descriptor.proofs.Place.is_among.Reads as is-among-reads
+use Rattle.descriptor.proofs.Place.linked.Reads as linked-reads
 use Rattle.interface.specs.Places.{capAt}
 use Rattle.places.proofs.load.Reads as load-reads
 use Rattle.tree.proofs.WalkLaws.{parent-small, walk-shorter, walk-ends, walk-finds, walk-passes}
@@ -26,47 +27,69 @@ module _ (t : ℕ) where
   ancestor-below = and 1 ancestor-kinds.ps (falls 1 ancestor-kinds.ps _<_ μ-ancestor t) ancestor.Pre
 
   abbrev calls : ancestor-lts.Claims
-  calls = (load-reads.Asked, load-reads.Learnt, nth-reads.Asked, nth-reads.Learnt, ancestor-below, ancestor.Post)
+  calls = (
+    load-reads.Asked,
+    load-reads.Learnt,
+    linked-reads.Asked,
+    linked-reads.Learnt,
+    is-among-reads.Asked,
+    is-among-reads.Learnt,
+    ancestor-below,
+    ancestor.Post,
+  )
 
   load-requires : ancestor-lts.Need-load-requires calls ancestor-at ancestor.Post
   load-requires c κs = search needs
 
+  linked-requires : ancestor-lts.Need-linked-requires calls ancestor-at ancestor.Post
+  linked-requires c κs = search needs
+
+  enum-known-above : ancestor-lts.Need-enum-known-above calls ancestor-at ancestor.Post
+  enum-known-above c = search needs
+
+  enum-told : ancestor-lts.Need-enum-told calls ancestor-at ancestor.Post
+  enum-told c = search needs
+
   returns : ancestor-lts.Need-returns calls ancestor-at ancestor.Post
   returns c =
-      let start = c .before .before .before in
-      walk-ends (start .pre .1 .1) (start .pre .1 .2) (c .before .load .ensures) _ _ (c .if1 .taken)
+      let found = c .before .before in
+      let start = found .before .before .before in
+      walk-ends (start .pre .1 .1) (start .pre .1 .2) (found .before .load .ensures) (found .linked .ensures) _ _ (c .enum-told .given .1)
 
-  sub-above : ancestor-lts.Need-sub-above calls ancestor-at ancestor.Post
-  sub-above c = omega arith
-
-  add-if2 : ancestor-lts.Need-add-if2 calls ancestor-at ancestor.Post
-  add-if2 c = omega arith
+  is-among-requires : ancestor-lts.Need-is-among-requires calls ancestor-at ancestor.Post
+  is-among-requires c κs = search needs
 
   returns-2 : ancestor-lts.Need-returns-2 calls ancestor-at ancestor.Post
   returns-2 c =
-      let start = c .before .before .before .before in
-      walk-finds (start .pre .1 .1) (start .pre .1 .2) (c .before .before .load .ensures) _ _ (c .before .if1 .left) (c .if2 .taken)
-
-  nth-requires : ancestor-lts.Need-nth-requires calls ancestor-at ancestor.Post
-  nth-requires c κs =
-      let start = c .before .before .before .before in
-      parent-small (start .pre .1 .1) (start .pre .1 .2) (c .before .before .load .ensures) (c .before .if1 .left)
+      let leads = c .before .before .before in
+      let found = leads .before .before in
+      let start = found .before .before .before in
+      walk-finds (start .pre .1 .1) (start .pre .1 .2) (found .before .load .ensures) (found .linked .ensures) (leads .above .given .1) _ _
+      (c .before .is-among .ensures) (c .if1 .taken)
 
   ancestor-requires : ancestor-lts.Need-ancestor-requires calls ancestor-at ancestor.Post
   ancestor-requires c κs =
-      let start = c .before .before .before .before .before in
-      let linked = start .pre .1 .1 in
-      let loaded = c .before .before .before .load .ensures in
-      let some = c .before .before .if1 .left in (
-        walk-shorter linked (start .pre .1 .2) loaded _ t (start .pre .0) some (c .nth .ensures),
-        (start .pre .1 .0, linked, rw (c .nth .ensures) (parent-small linked (start .pre .1 .2) loaded some), omega arith),
+      let leads = c .before .before .before in
+      let found = leads .before .before in
+      let start = found .before .before .before in
+      let links = start .pre .1 .1 in
+      let loaded = found .before .load .ensures in (
+        walk-shorter links (start .pre .1 .2) loaded (found .linked .ensures) (leads .above .given .1) t (start .pre .0),
+        (
+          start .pre .1 .0,
+          links,
+          parent-small links (start .pre .1 .2) loaded (found .linked .ensures) (leads .above .given .1),
+          start .pre .1 .3,
+        ),
       )
 
   returns-3 : ancestor-lts.Need-returns-3 calls ancestor-at ancestor.Post
   returns-3 c =
-      let start = c .before .before .before .before .before .before in
-      walk-passes (start .pre .1 .1) (start .pre .1 .2) (c .before .before .before .before .load .ensures) _ _ _ _ (c .before .before .before .if1 .left)
-      (c .before .before .if2 .left) (c .before .nth .ensures) (c .ancestor .ensures)
+      let leads = c .before .before .before .before in
+      let found = leads .before .before in
+      let start = found .before .before .before in
+      walk-passes (start .pre .1 .1) (start .pre .1 .2) (found .before .load .ensures) (found .linked .ensures) (leads .above .given .1) _ _
+      (c .before .before .is-among .ensures) (c .before .if1 .left) (c .ancestor .ensures)
 
 pub +ancestor-spec : {M : Type 1} → statement M
 +ancestor-spec =
@@ -77,10 +100,11 @@ pub +ancestor-spec : {M : Type 1} → statement M
     (ancestor-at t)
     ancestor.Post
     (load-requires t)
+    (linked-requires t)
+    (enum-known-above t)
+    (enum-told t)
     (returns t)
-    (sub-above t)
-    (add-if2 t)
+    (is-among-requires t)
     (returns-2 t)
-    (nth-requires t)
     (ancestor-requires t)
     (returns-3 t))

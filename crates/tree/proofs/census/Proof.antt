@@ -1,7 +1,7 @@
 -- Each way out is one of the definition's.
 use native.Mathlib.Omega.{arith}
 use borrow.Author.Needs.{needs}
-use Rattle.tree.proofs.CensusLaws.{counts-beyond, named-inside, counts-null, counts-short, counts-all}
+use Rattle.tree.proofs.CensusLaws.{counts-beyond, named-small, counts-null, counts-short, counts-all}
 use Rattle.tree.proofs.census.Statement.{statement}
 use Rattle.tree.proofs.census.Tie as tie
 
@@ -20,7 +20,7 @@ returns c = counts-beyond _ _ _ (c .before .before .found .ensures) (c .enum-tol
 load-requires : tie.Need-load-requires
 load-requires c κs =
     let start = c .before .before .before .before .before .before in
-    (start .pre .0, omega (arith, named-inside _ (c .before .before .before .found .ensures) _ (c .before .at .given .1)))
+    (start .pre .0, named-small _ (c .before .before .before .found .ensures) _ (c .before .at .given .1))
 
 is-live-requires : tie.Need-is-live-requires
 is-live-requires c κs = search needs
@@ -35,7 +35,7 @@ count-below-requires : tie.Need-count-below-requires
 count-below-requires c κs =
     let named = c .before .before .before .before in
     let start = named .before .before .before .before .before in
-    (start .pre .0, start .pre .1, named-inside _ (named .before .before .found .ensures) _ (named .at .given .1) .1)
+    (start .pre .0, start .pre .1, named-small _ (named .before .before .found .ensures) _ (named .at .given .1))
 
 cast-if2 : tie.Need-cast-if2
 cast-if2 c = search needs
@@ -53,7 +53,7 @@ fill-below-requires c κs =
     let start = named .before .before .before .before .before in (
       start .pre .0,
       start .pre .1,
-      named-inside _ (named .before .before .found .ensures) _ (named .at .given .1) .1,
+      named-small _ (named .before .before .found .ensures) _ (named .at .given .1),
       omega (arith, counted .count-below .ensures),
     )
 

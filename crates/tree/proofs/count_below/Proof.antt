@@ -13,7 +13,7 @@ use Rattle.tree.proofs.count_below.Statement.{statement}
 use Rattle.tree.proofs.count_below.Tie as tie
 
 abbrev Inv-loop : tie.InvT-loop
-Inv-loop table place count₀ number₀ count number = (number ≤ places) × (count ≤ number) × (count ≡ length (descendantsBelow (capAt table) place number))
+Inv-loop table place count₀ number₀ count number = (number ≤ places) × (count ≤ number) × (count ≡ length (descendantsBelow (capAt table) (place .0) number))
 
 abbrev μ-loop : tie.MeasureT-loop
 μ-loop table place count₀ number₀ count number = places - number
@@ -22,8 +22,8 @@ loop-holds : tie.Need-loop-holds Inv-loop μ-loop
 unfolding gather
 loop-holds c = (omega arith, omega arith, refl)
 
-nth-requires : tie.Need-nth-requires Inv-loop μ-loop
-nth-requires c κs = search needs
+counted-requires : tie.Need-counted-requires Inv-loop μ-loop
+counted-requires c κs = search needs
 
 is-below-requires : tie.Need-is-below-requires Inv-loop μ-loop
 is-below-requires c κs = search needs
@@ -40,7 +40,7 @@ loop-less c = search needs
 loop-again : tie.Need-loop-again Inv-loop μ-loop
 loop-again c =
     let so-far = c .before .before .before .before .loop .inv .2 in
-    let is-at = c .before .before .nth .ensures in
+    let is-at = c .before .before .counted .ensures in
     let told = c .before .is-below .ensures in
     ⊎-elim (λ w. omega (arith, count-more _ _ _ is-at told so-far (w .0 .taken))) (λ w. omega (arith, count-same _ _ _ is-at told so-far (w .0 .left)))
     (c .if1 .came)
@@ -55,7 +55,7 @@ count-below-spec =
     Inv-loop
     μ-loop
     loop-holds
-    nth-requires
+    counted-requires
     is-below-requires
     add-count
     add-number

@@ -11,66 +11,62 @@ use Rattle.tree.proofs.mark_word.Statement.{statement}
 use Rattle.tree.proofs.mark_word.Tie as tie
 
 abbrev Inv-loop : tie.InvT-loop
-Inv-loop table marked from first size self-too word₀ place₀ word place =
-    (from ≤ place) × (place ≤ from + 32) × (word ≡ packed (cutAt (capAt table) first size self-too) place (from + 32 - place))
+Inv-loop table marked from first size self-too word₀ offset₀ word offset =
+    (offset ≤ 32) × (word ≡ packed (cutAt (capAt table) (first .0) size self-too) (from .0 + offset) (32 - offset))
 
 abbrev μ-loop : tie.MeasureT-loop
-μ-loop table marked from first size self-too word₀ place₀ word place = place
-
-nth-requires : tie.Need-nth-requires Inv-loop μ-loop
-nth-requires c κs = omega arith
+μ-loop table marked from first size self-too word₀ offset₀ word offset = offset
 
 space-requires : tie.Need-space-requires Inv-loop μ-loop
 space-requires c κs = search needs
-
-nth-requires-2 : tie.Need-nth-requires-2 Inv-loop μ-loop
-nth-requires-2 c κs = search needs
 
 space-requires-2 : tie.Need-space-requires-2 Inv-loop μ-loop
 space-requires-2 c κs = search needs
 
 returns : tie.Need-returns Inv-loop μ-loop
 returns c =
-    let start = c .before .before .before .before .before .before in
-    other-space _ (start .pre .1) (start .pre .4) (start .args .self-too) _ _ _ (start .pre .2) (start .pre .3)
-    (rw (c .before .before .before .before .nth .ensures) at (c .before .before .before .space .ensures)) (rw (c .before .before .nth2 .ensures) at (c .before .space2 .ensures)) (c .if1 .taken)
-
-add-place : tie.Need-add-place Inv-loop μ-loop
-add-place c = search needs
+    let start = c .before .before .before .before in
+    other-space _ (start .pre .1) (start .pre .4) (start .args .self-too) _ _ _ (start .pre .2) (start .pre .3) (c .before .before .space .ensures)
+    (c .before .space2 .ensures) (c .if1 .taken)
 
 loop-holds : tie.Need-loop-holds Inv-loop μ-loop
-loop-holds c = (omega arith, omega arith, packed-start _ _)
+loop-holds c = (omega arith, packed-start _ _)
 
-sub-place : tie.Need-sub-place Inv-loop μ-loop
-sub-place c = search needs
+sub-offset : tie.Need-sub-offset Inv-loop μ-loop
+sub-offset c = search needs
 
 mul-word : tie.Need-mul-word Inv-loop μ-loop
-mul-word c = let inv = c .before .loop .inv in omega (arith, packed-room _ _ _ (inv .2) (omega arith) (inv .1))
+mul-word c = let inv = c .before .loop .inv in omega (arith, packed-room _ _ _ (inv .1) (omega arith) (inv .0))
+
+after-requires : tie.Need-after-requires Inv-loop μ-loop
+after-requires c κs = omega arith
 
 is-cut-requires : tie.Need-is-cut-requires Inv-loop μ-loop
-is-cut-requires c κs = search needs
+is-cut-requires c κs =
+    let start = c .before .before .before .before .before .before .before in
+    (start .pre .0, start .pre .1, omega arith, start .pre .4 .ends, start .pre .5)
 
 add-word : tie.Need-add-word Inv-loop μ-loop
-add-word c = let inv = c .before .before .before .loop .inv in omega (arith, packed-room _ _ _ (inv .2) (omega arith) (inv .1))
+add-word c = let inv = c .before .before .before .before .loop .inv in omega (arith, packed-room _ _ _ (inv .1) (omega arith) (inv .0))
 
 loop-less : tie.Need-loop-less Inv-loop μ-loop
 loop-less c = search needs
 
 loop-again : tie.Need-loop-again Inv-loop μ-loop
 loop-again c =
-    let inv = c .before .before .before .loop .inv in
-    (omega arith, omega arith, packed-marked _ _ _ (inv .2) (omega arith) (inv .1) (c .before .is-cut .ensures) (c .if2 .taken))
+    let inv = c .before .before .before .before .loop .inv in
+    (omega arith, packed-marked _ _ _ (inv .1) (omega arith) (inv .0) (c .before .before .after .ensures) (c .before .is-cut .ensures) (c .if2 .taken))
 
 loop-less-2 : tie.Need-loop-less-2 Inv-loop μ-loop
 loop-less-2 c = search needs
 
 loop-again-2 : tie.Need-loop-again-2 Inv-loop μ-loop
 loop-again-2 c =
-    let inv = c .before .before .before .loop .inv in
-    (omega arith, omega arith, packed-unmarked _ _ _ (inv .2) (omega arith) (inv .1) (c .before .is-cut .ensures) (c .if2 .left))
+    let inv = c .before .before .before .before .loop .inv in
+    (omega arith, packed-unmarked _ _ _ (inv .1) (omega arith) (inv .0) (c .before .before .after .ensures) (c .before .is-cut .ensures) (c .if2 .left))
 
 returns-2 : tie.Need-returns-2 Inv-loop μ-loop
-returns-2 c = packed-all _ _ _ (c .before .loop .inv .2) (omega arith)
+returns-2 c = packed-all _ _ _ (c .before .loop .inv .1) (omega arith)
 
 pub mark-word-spec : {M : Type 1} → statement M
 mark-word-spec =
@@ -78,15 +74,13 @@ mark-word-spec =
     (tie.spec
     Inv-loop
     μ-loop
-    nth-requires
     space-requires
-    nth-requires-2
     space-requires-2
     returns
-    add-place
     loop-holds
-    sub-place
+    sub-offset
     mul-word
+    after-requires
     is-cut-requires
     add-word
     loop-less

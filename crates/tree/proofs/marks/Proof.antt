@@ -10,7 +10,7 @@ use Rattle.tree.proofs.marks.Tie as tie
 
 abbrev Inv-loop : tie.InvT-loop
 Inv-loop table first size self-too marked₀ walked₀ marked walked =
-    (walked ≤ 48) × Stored (λ number. packed (cutAt (capAt table) first size self-too) (number * 32) 32) 48 walked marked
+    (walked ≤ 48) × Stored (λ number. packed (cutAt (capAt table) (first .0) size self-too) (number * 32) 32) 48 walked marked
 
 abbrev μ-loop : tie.MeasureT-loop
 μ-loop table first size self-too marked₀ walked₀ marked walked = 48 - walked
@@ -18,11 +18,23 @@ abbrev μ-loop : tie.MeasureT-loop
 loop-holds : tie.Need-loop-holds Inv-loop μ-loop
 loop-holds c = (omega arith, stored-none _ _)
 
-mul-mark-word : tie.Need-mul-mark-word Inv-loop μ-loop
-mul-mark-word c = search needs
+mul-counted : tie.Need-mul-counted Inv-loop μ-loop
+mul-counted c = search needs
+
+counted-requires : tie.Need-counted-requires Inv-loop μ-loop
+counted-requires c κs = search needs
 
 mark-word-requires : tie.Need-mark-word-requires Inv-loop μ-loop
-mark-word-requires c κs = search (stored-marked, needs)
+mark-word-requires c κs =
+    let start = c .before .before .before .before .before in
+    let counts = c .before .counted .ensures in (
+      start .pre .0,
+      start .pre .1,
+      omega (arith, counts),
+      omega (arith, counts),
+      start .pre .2,
+      rw counts (stored-marked _ _ _ _ (c .before .before .before .loop .inv .1)),
+    )
 
 cast-marked : tie.Need-cast-marked Inv-loop μ-loop
 cast-marked c = search needs
@@ -40,7 +52,9 @@ loop-less : tie.Need-loop-less Inv-loop μ-loop
 loop-less c = search needs
 
 loop-again : tie.Need-loop-again Inv-loop μ-loop
-loop-again c = (omega arith, stored-more (c .before .before .before .loop .inv .1) _ (omega arith) (c .mark-word .ensures))
+loop-again c =
+    let counts = c .before .before .counted .ensures in
+    (omega arith, stored-more (c .before .before .before .before .loop .inv .1) _ (omega arith) (rw counts at (c .mark-word .ensures)))
 
 returns : tie.Need-returns Inv-loop μ-loop
 returns c = stored-all (c .before .loop .inv .1) (omega arith)
@@ -52,7 +66,8 @@ marks-spec =
     Inv-loop
     μ-loop
     loop-holds
-    mul-mark-word
+    mul-counted
+    counted-requires
     mark-word-requires
     cast-marked
     mul-marked

@@ -21,11 +21,11 @@ add-result c = search needs
 returns : tie.Need-returns
 returns c = skips refl (c .if1 .taken) refl
 
+counted-requires : tie.Need-counted-requires
+counted-requires c κs = search needs
+
 is-marked-requires : tie.Need-is-marked-requires
 is-marked-requires c κs = search needs
-
-nth-requires : tie.Need-nth-requires
-nth-requires c κs = search needs
 
 strip-requires : tie.Need-strip-requires
 strip-requires c κs = search needs
@@ -37,13 +37,16 @@ same-length : tie.Need-same-length
 same-length c = search needs
 
 returns-2 : tie.Need-returns-2
-returns-2 c = strips refl (sym (c .before .before .before .before .before .before .is-marked .ensures) ∙ c .before .before .before .before .before .if2 .taken) (stripped-at _ _ _ (c .before .before .before .nth .ensures) (c .before .before .strip .ensures))
+returns-2 c =
+    let tested = c .before .before .before .before in
+    let counts = tested .before .before .counted .ensures in
+    strips refl (sym (rw counts at (tested .before .is-marked .ensures)) ∙ tested .if2 .taken) (stripped-at _ _ _ counts (c .before .before .strip .ensures))
 
 add-result-3 : tie.Need-add-result-3
 add-result-3 c = search needs
 
 returns-3 : tie.Need-returns-3
-returns-3 c = passes refl (sym (c .before .is-marked .ensures) ∙ c .if2 .left) refl
+returns-3 c = passes refl (sym (rw (c .before .before .counted .ensures) at (c .before .is-marked .ensures)) ∙ c .if2 .left) refl
 
 pub strip-next-spec : {M : Type 1} → statement M
 strip-next-spec =
@@ -54,8 +57,8 @@ strip-next-spec =
     element-copy-out-if1
     add-result
     returns
+    counted-requires
     is-marked-requires
-    nth-requires
     strip-requires
     add-result-2
     same-length

@@ -1,64 +1,19 @@
--- The four words read are those that the definition names.
-use mathlib.Core.Path.{refl}
+-- The place is the one counted to.
+use mathlib.Core.Path.{_∙_, ap}
+use denote.Ref.{now}
 use borrow.Author.Needs.{needs}
 use Rattle.interface.specs.Places.{capAt}
 use Rattle.soundness.proofs.place_rules.cap_at.Statement.{statement}
 use Rattle.soundness.proofs.place_rules.cap_at.Tie as tie
 
-mul-at : tie.Need-mul-at
-mul-at c = search needs
+counted-requires : tie.Need-counted-requires
+counted-requires c κs = search needs
 
-mul-t4 : tie.Need-mul-t4
-mul-t4 c = search needs
-
-shared-slice-read-t6 : tie.Need-shared-slice-read-t6
-shared-slice-read-t6 c = search needs
-
-add-t7 : tie.Need-add-t7
-add-t7 c = search needs
-
-mul-t8 : tie.Need-mul-t8
-mul-t8 c = search needs
-
-shared-slice-read-t10 : tie.Need-shared-slice-read-t10
-shared-slice-read-t10 c = search needs
-
-add-t11 : tie.Need-add-t11
-add-t11 c = search needs
-
-mul-t12 : tie.Need-mul-t12
-mul-t12 c = search needs
-
-shared-slice-read-t14 : tie.Need-shared-slice-read-t14
-shared-slice-read-t14 c = search needs
-
-add-t15 : tie.Need-add-t15
-add-t15 c = search needs
-
-mul-t16 : tie.Need-mul-t16
-mul-t16 c = search needs
-
-shared-slice-read-t18 : tie.Need-shared-slice-read-t18
-shared-slice-read-t18 c = search needs
+load-requires : tie.Need-load-requires
+load-requires c κs = search needs
 
 returns : tie.Need-returns
-unfolding capAt
-returns c = refl
+returns c = c .load .ensures ∙ ap (capAt (now (c .before .before .before .args .table))) (c .before .counted .ensures)
 
 pub cap-at-spec : {M : Type 1} → statement M
-cap-at-spec =
-    tie.close
-    (tie.spec
-    mul-at
-    mul-t4
-    shared-slice-read-t6
-    add-t7
-    mul-t8
-    shared-slice-read-t10
-    add-t11
-    mul-t12
-    shared-slice-read-t14
-    add-t15
-    mul-t16
-    shared-slice-read-t18
-    returns)
+cap-at-spec = tie.close (tie.spec counted-requires load-requires returns)

@@ -11,8 +11,8 @@ returns c = search (fixed-past, needs)
 cap-at-requires : tie.Need-cap-at-requires
 cap-at-requires c κs = search needs
 
-nth-requires : tie.Need-nth-requires
-nth-requires c κs = search needs
+counted-requires : tie.Need-counted-requires
+counted-requires c κs = search needs
 
 boot-cap-requires : tie.Need-boot-cap-requires
 boot-cap-requires c κs = search needs
@@ -22,9 +22,9 @@ is-same-requires c κs = search needs
 
 returns-2 : tie.Need-returns-2
 returns-2 c =
-    let of-boot = rw (c .before .before .nth .ensures) at (c .before .boot-cap .ensures) in
+    let of-boot = rw (c .before .before .counted .ensures) at (c .before .boot-cap .ensures) in
     fixed-same _ _ _ _ _ (omega arith) (c .before .before .before .cap-at .ensures) of-boot (c .is-same .ensures)
 
 pub fixed-keeps-spec : {M : Type 1} → statement M
 fixed-keeps-spec =
-    tie.close (tie.spec returns cap-at-requires nth-requires boot-cap-requires is-same-requires returns-2)
+    tie.close (tie.spec returns cap-at-requires counted-requires boot-cap-requires is-same-requires returns-2)

@@ -5,6 +5,9 @@ use Rattle.soundness.proofs.PlaceTests.{turn-tells}
 use Rattle.soundness.proofs.place_rules.is_of_space.Statement.{statement}
 use Rattle.soundness.proofs.place_rules.is_of_space.Tie as tie
 
+number-requires : tie.Need-number-requires
+number-requires c κs = search needs
+
 shl-has : tie.Need-shl-has
 shl-has c = search needs
 
@@ -12,7 +15,9 @@ has-requires : tie.Need-has-requires
 has-requires c κs = search needs
 
 returns : tie.Need-returns
-returns c = c .has .ensures ∙ turn-tells (c .before .args .place) (c .before .args .space) (c .before .pre .0) (c .before .pre .1)
+returns c =
+    let start = c .before .before in
+    rw (c .before .number .ensures) at (c .has .ensures) ∙ turn-tells (start .args .place .0) (start .args .space) (start .pre .0) (start .pre .1)
 
 pub is-of-space-spec : {M : Type 1} → statement M
-is-of-space-spec = tie.close (tie.spec shl-has has-requires returns)
+is-of-space-spec = tie.close (tie.spec number-requires shl-has has-requires returns)

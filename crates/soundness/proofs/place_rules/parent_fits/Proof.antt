@@ -1,14 +1,11 @@
 -- The tests are the definition's.
 use borrow.Author.Needs.{needs}
-use Rattle.soundness.proofs.PlaceTests.{parent-past, parent-so}
+use Rattle.soundness.proofs.PlaceTests.{parent-so}
 use Rattle.soundness.proofs.place_rules.parent_fits.Statement.{statement}
 use Rattle.soundness.proofs.place_rules.parent_fits.Tie as tie
 
-returns : tie.Need-returns
-returns c = search (parent-past, needs)
-
-cap-at-requires : tie.Need-cap-at-requires
-cap-at-requires c κs = search needs
+load-requires : tie.Need-load-requires
+load-requires c κs = search needs
 
 is-of-space-requires : tie.Need-is-of-space-requires
 is-of-space-requires c κs = search needs
@@ -25,18 +22,17 @@ add-result c = search needs
 cast-result-2 : tie.Need-cast-result-2
 cast-result-2 c = search needs
 
-returns-2 : tie.Need-returns-2
-returns-2 c = search (parent-so, needs)
+returns : tie.Need-returns
+returns c = search (parent-so, needs)
 
 pub parent-fits-spec : {M : Type 1} → statement M
 parent-fits-spec =
     tie.close
     (tie.spec
-    returns
-    cap-at-requires
+    load-requires
     is-of-space-requires
     is-within-requires
     cast-result
     add-result
     cast-result-2
-    returns-2)
+    returns)

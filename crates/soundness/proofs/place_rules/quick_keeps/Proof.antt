@@ -2,7 +2,8 @@
 use native.Mathlib.Omega.{arith}
 use borrow.Author.Needs.{needs}
 use Rattle.words.proofs.PlaceLaws.{space-small}
-use Rattle.soundness.proofs.QuickLaws.{some-place, quick-null, root-at-home, child-at-home}
+use Rattle.soundness.proofs.PlaceTests.{link-small}
+use Rattle.soundness.proofs.QuickLaws.{quick-null, root-at-home, child-at-home}
 use Rattle.soundness.proofs.place_rules.quick_keeps.Statement.{statement}
 use Rattle.soundness.proofs.place_rules.quick_keeps.Tie as tie
 
@@ -18,22 +19,32 @@ is-same-requires c κs = search needs
 returns : tie.Need-returns
 returns c = search (quick-null, needs)
 
-sub-parent-fits : tie.Need-sub-parent-fits
-sub-parent-fits c = some-place _ (c .before .before .if2 .taken)
+linked-requires : tie.Need-linked-requires
+linked-requires c κs = search needs
 
-parent-fits-requires : tie.Need-parent-fits-requires
-parent-fits-requires c κs =
-    let start = c .before .before .before .before .before .before .before .before .before .before in
-    (start .pre .0 .places-long, omega arith, omega (arith, start .pre .0 .in-space, space-small (start .args .place)))
+enum-known-parent : tie.Need-enum-known-parent
+enum-known-parent c = search needs
 
-returns-2 : tie.Need-returns-2
-returns-2 c = search (child-at-home, some-place, needs)
+enum-told : tie.Need-enum-told
+enum-told c = search needs
 
 names-object-requires : tie.Need-names-object-requires
 names-object-requires c κs = search needs
 
+returns-2 : tie.Need-returns-2
+returns-2 c = search (root-at-home, needs)
+
+parent-fits-requires : tie.Need-parent-fits-requires
+parent-fits-requires c κs =
+    let start = c .before .before .before .before .before .before .before .before .before .before in (
+      start .pre .0 .places-long,
+      omega arith,
+      omega (arith, start .pre .0 .in-space, space-small (start .args .place)),
+      link-small _ _ _ (c .before .before .before .before .linked .ensures) (c .before .before .parent .given .1),
+    )
+
 returns-3 : tie.Need-returns-3
-returns-3 c = search (root-at-home, needs)
+returns-3 c = search (child-at-home, needs)
 
 pub quick-keeps-spec : {M : Type 1} → statement M
 quick-keeps-spec =
@@ -43,8 +54,10 @@ quick-keeps-spec =
     without-parent-requires
     is-same-requires
     returns
-    sub-parent-fits
-    parent-fits-requires
-    returns-2
+    linked-requires
+    enum-known-parent
+    enum-told
     names-object-requires
+    returns-2
+    parent-fits-requires
     returns-3)

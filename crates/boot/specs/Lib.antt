@@ -1,0 +1,2 @@
+-- What boot hands out.
+pub mod Held
