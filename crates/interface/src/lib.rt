@@ -1,6 +1,6 @@
 // The interface as definitions (specs/) and what is proved of them: each function here promises one statement and does nothing, so that its proof is the
 // statement's.
-ghost use Rattle.interface.specs.Consequences.{StaysSound, DamagedExactly, RefusedStays, NothingIsNothing, AddsNoPermission, RevokesExactly};
+ghost use Rattle.interface.specs.Consequences.{StaysSound, DamagedExactly, RefusedStays, BlocksStay, NothingIsNothing, AddsNoPermission, RevokesExactly};
 ghost use Rattle.interface.specs.Refusals.{CallRefusedExactly, CreationsRefusedExactly, SmCtrlRefusedExactly, LookupRefusedExactly, RevokeRefusedExactly, CensusRefusedExactly, DispatchRefusedExactly, MalformedExactly};
 ghost use Rattle.interface.specs.Created.{CreatedExactly};
 ghost use Rattle.interface.specs.Deliveries.{DeliversItems, DeliversWords, DeliversRange};
@@ -39,6 +39,11 @@ pub fn damage_named()
 // A refused event changes no word of tables, block or list.
 pub fn refused_stays()
     ensures { λ r. ⌜ RefusedStays ⌝ }
+{}
+
+// No call but CALL changes a word of the callee's block, whether it is granted or refused.
+pub fn blocks_stay()
+    ensures { λ r. ⌜ BlocksStay ⌝ }
 {}
 
 // A selector that holds nothing is reported as nothing, and any other by the largest range around it.
