@@ -22,6 +22,7 @@ use Rattle.descriptor.specs.declared.Reply.the-variants.{ComTim, BadCap, BadPar
 use Rattle.descriptor.proofs.DescriptorLaws.{matched-both, matched-good}
 use Rattle.interface.specs.Basics.{word, listed}
 use Rattle.interface.specs.Places.{Cap, State, live, PT, ecWord, cpuWord, callBit, objectPlace, permitted, objectIn}
+use Rattle.interface.specs.Damage.{isEc, soundState}
 use Rattle.interface.specs.Descriptors.{reading, matched}
 use Rattle.interface.specs.Effects.{Effect, give, fills, handed, act, run, fillsOne, filled}
 use Rattle.interface.specs.Verdicts.{Call, CALL, grant, require_else_then_, callerDomain}
@@ -31,7 +32,10 @@ use Rattle.interface.specs.Rules.{hypercall, rules, after}
 use Rattle.interface.specs.Consequences.{calleeDomain}
 use Rattle.interface.specs.Deliveries.{Due, Delegated, DelegatesTo, offsets, itemCount, sourceAt, destinationAt, Reached, before, ItemDelivered, DeliversItems}
 use Rattle.interface.proofs.BoolLaws.{cases, and-left, and-right, each-of-four}
-use Rattle.interface.proofs.VerdictLaws.{required, rule-grants, after-granted}
+use Rattle.interface.proofs.Soundness.{Sound, sound-facts, facts-sound}
+use Rattle.interface.proofs.Sequences.{run-sound}
+use Rattle.interface.proofs.MessageFits.{message-fits}
+use Rattle.interface.proofs.VerdictLaws.{required, rule-grants, rule-checked, after-granted}
 use Rattle.interface.proofs.TurnLaws.{run-append, filled-append, give-others}
 use Rattle.interface.proofs.TableLaws.{length-listed, take-listed}
 use Rattle.interface.proofs.NoteLaws.{fills-leaves}
@@ -268,11 +272,12 @@ module _ (s : State) (c : Call) where
       (λ i l. any-item (callerDomain s c) (calleeDomain s c) (c .source) (c .target) i) in
       ap (λ (later : State). later .objects) (gives-anywhere (s .objects) (s .objects) gives (s .caps))
 
--- a granted CALL: its blocks have their lengths, its counts fit the payload, and its verdict is the message's
+-- a granted CALL: its blocks have their lengths, its counts fit the payload, its portal is permitted, and its verdict is the message's
 pub record CallGranted (s : State) (c : Call) (answer : ℕ) (block : List ℕ) : Type 0 where
   pub source-long : length (c .source) ≡ blockWords
   pub target-long : length (c .target) ≡ blockWords
   pub payload-fits : bits 0 15 (word (c .source) 0) + 2 * itemCount c ≤ 60
+  pub portal-permitted : permitted s (objectPlace (callerDomain s c) (c .first)) PT callBit ≡ true
   pub ends : after s c ≡ stateBefore s c (itemCount c)
   pub answers : answer ≡ movedBefore s c (itemCount c) .filled
   pub gives-back : block ≡ movedBefore s c (itemCount c) .block
@@ -305,19 +310,28 @@ call-granted s c answer effects block n h =
       source-long = eqb-true (length (c .source)) blockWords (and-left long-source long-target (blocks .0));
       target-long = eqb-true (length (c .target)) blockWords (and-right long-source long-target (blocks .0));
       payload-fits = leb-true (bits 0 15 (word (c .source) 0) + 2 * itemCount c) 60 (on-payload .0);
+      portal-permitted = on-portal .0;
       ends = rw same-effects at (after-granted answer effects block s c h);
       answers = same-answer;
       gives-back = same-block;
     }
 
+-- the state before each item is sound
+before-sound : (s : State) (c : Call) → Sound s → isEc s (c .caller) ≡ true → permitted s (objectPlace (callerDomain s c) (c .first)) PT callBit ≡ true → (item : ℕ) →
+    soundState (before s c item 0 .state) ≡ true
+before-sound s c k e p item =
+    rw (before-first s c item) (facts-sound (stateBefore s c item) (run-sound (movedBefore s c item .effects) s k (message-fits s c k e p item)))
+
 pub delivers-items : DeliversItems
-unfolding carried run
+unfolding carried run hypercall
 delivers-items s c answer effects block n h =
     let granted = call-granted s c answer effects block n h in
+    let checked = rule-checked answer effects block s c h portalCall (rw n) in
     record {
       from-the-call = before-first s c 0;
       each-delegated = λ item range window l to. item-delivered s c item range window to l (granted .ends);
       others-nothing = λ item l. other-item s c item;
       to-the-end = before-first s c (itemCount c) ∙ (rw (granted .ends, granted .answers));
       objects-stay = rw (granted .ends) (message-objects s c (itemCount c));
+      stays-sound = λ item l. before-sound s c (sound-facts s (checked .0)) (checked .1) (granted .portal-permitted) item;
     }

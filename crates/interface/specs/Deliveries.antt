@@ -13,6 +13,7 @@ use Rattle.descriptor.specs.declared.Range.{Range}
 use Rattle.descriptor.specs.declared.Reading.the-variants.{Good}
 use Rattle.interface.specs.Basics.{if_then_else_, word}
 use Rattle.interface.specs.Places.{State, live, nothing, domainWord, kindOf}
+use Rattle.interface.specs.Damage.{soundState}
 use Rattle.interface.specs.Descriptors.{describe, reading, matched}
 use Rattle.interface.specs.Effects.{Effect, run, filled}
 use Rattle.interface.specs.Verdicts.{Call, CALL, CREATE-PD, callerDomain, grant}
@@ -109,7 +110,7 @@ pub record ItemDelivered (s : State) (c : Call) (item : ℕ) (range window : Ran
   pub then-the-next : before s c (suc item) 0 ≡ before s c item (offsets range window)
 
 -- CALL delivers its items in turn: from the state before the call, where nothing has been filled; each item that delegates as it should; any other without change; and the
--- call leaves the state, and answers the count, that the last item leaves
+-- call leaves the state, and answers the count, that the last item leaves. The state before each item is sound
 pub record ItemsDelivered (s : State) (c : Call) (answer : ℕ) : Type 0 where
   pub from-the-call : before s c 0 0 ≡ record { state = s; count = 0 }
   pub each-delegated : (item : ℕ) (range window : Range) → item < itemCount c → DelegatesTo c item range window → ItemDelivered s c item range window
@@ -117,6 +118,7 @@ pub record ItemsDelivered (s : State) (c : Call) (answer : ℕ) : Type 0 where
       before s c (suc item) 0 ≡ before s c item 0
   pub to-the-end : before s c (itemCount c) 0 ≡ record { state = after s c; count = answer }
   pub objects-stay : after s c .objects ≡ s .objects
+  pub stays-sound : (item : ℕ) → item ≤ itemCount c → soundState (before s c item 0 .state) ≡ true
 
 -- Every CALL that is granted delivers its items so
 abbrev pub DeliversItems : Type 0

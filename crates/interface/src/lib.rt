@@ -96,7 +96,7 @@ pub fn created_exactly()
     ensures { λ r. ⌜ CreatedExactly ⌝ }
 {}
 
-// CALL delivers its items in turn, each at each of its offsets where the delegation is due and nowhere else, and answers how many places that fills.
+// CALL delivers its items in turn, each on a sound state, at each of its offsets where the delegation is due and nowhere else, and answers how many places that fills.
 pub fn delivers_items()
     ensures { λ r. ⌜ DeliversItems ⌝ }
 {}
