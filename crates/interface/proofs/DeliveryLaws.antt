@@ -12,7 +12,7 @@ use lib.ListN.{length, take, drop, take-append-drop}
 use lib.Seq.{take-all}
 use borrow.Author.Tests.{leb-true, eqb-true, eqb-false, eq-eqb, ne-eqb, ltb-true, lt-ltb, not-true}
 use Rattle.words.specs.Fields.{bits}
-use Rattle.words.specs.Sizes.{greatestDepth, blockWords}
+use Rattle.words.specs.Sizes.{domains, greatestDepth, blockWords}
 use Rattle.descriptor.specs.declared.Range.{Range}
 use Rattle.descriptor.specs.declared.Match.{Match}
 use Rattle.descriptor.specs.declared.Match.the-variants.{Both, Neither}
@@ -22,7 +22,7 @@ use Rattle.descriptor.specs.declared.Reply.the-variants.{ComTim, BadCap, BadPar
 use Rattle.descriptor.proofs.DescriptorLaws.{matched-both, matched-good}
 use Rattle.interface.specs.Basics.{word, listed}
 use Rattle.interface.specs.Places.{Cap, State, live, PT, ecWord, cpuWord, callBit, objectPlace, permitted, objectIn}
-use Rattle.interface.specs.Damage.{isEc, soundState}
+use Rattle.interface.specs.Damage.{soundState}
 use Rattle.interface.specs.Descriptors.{reading, matched}
 use Rattle.interface.specs.Effects.{Effect, give, fills, handed, act, run, fillsOne, filled}
 use Rattle.interface.specs.Verdicts.{Call, CALL, grant, require_else_then_, callerDomain}
@@ -30,10 +30,11 @@ use Rattle.interface.specs.Message.{translateWindow, delegateWindow, del
 use Rattle.interface.specs.PortalCalls.{portalCall}
 use Rattle.interface.specs.Rules.{hypercall, rules, after}
 use Rattle.interface.specs.Consequences.{calleeDomain}
-use Rattle.interface.specs.Deliveries.{Due, Delegated, DelegatesTo, offsets, itemCount, sourceAt, destinationAt, Reached, before, ItemDelivered, DeliversItems}
+use Rattle.interface.specs.Deliveries.{Due, Delegated, DelegatesTo, TranslatesTo, offsets, itemCount, sourceAt, destinationAt, Reached, before, ItemDelivered, DeliversItems}
 use Rattle.interface.proofs.BoolLaws.{cases, and-left, and-right, each-of-four}
-use Rattle.interface.proofs.Soundness.{Sound, sound-facts, facts-sound}
+use Rattle.interface.proofs.Soundness.{sound-facts, facts-sound}
 use Rattle.interface.proofs.Sequences.{run-sound}
+use Rattle.interface.proofs.SoundFacts.{home, ec-home}
 use Rattle.interface.proofs.MessageFits.{message-fits}
 use Rattle.interface.proofs.VerdictLaws.{required, rule-grants, rule-checked, after-granted}
 use Rattle.interface.proofs.TurnLaws.{run-append, filled-append, give-others}
@@ -93,6 +94,12 @@ unmatched-none : (match : Match) (now : State) (sender receiver second : ℕ) �
 unfolding delegateItem
 unmatched-none (Neither reason) now sender receiver second other = (reason, refl)
 unmatched-none (Both range window) now sender receiver second other = absurd (other range window refl)
+
+translate-unmatched : (match : Match) (now : State) (sender receiver : ℕ) → ((range window : Range) → match ≡ Both range window → ⊥) →
+    (reason : Reason) × (translateItem now sender receiver match ≡ record { received = NullItem reason; effects = [] })
+unfolding translateItem
+translate-unmatched (Neither reason) now sender receiver other = (reason, refl)
+translate-unmatched (Both range window) now sender receiver other = absurd (other range window refl)
 
 translate-none : (match : Match) (now : State) (sender receiver : ℕ) → translateItem now sender receiver match .effects ≡ []
 unfolding translateItem
@@ -243,7 +250,7 @@ module _ (s : State) (c : Call) where
       other range window (record { delegate-bit = bit; range-read = range-good; window-read = window-good; same-space = same })))
 
   -- an item that translates does so on the state as it stands, in the window of word 1
-  pub outcome-translates : (item : ℕ) → (delegateBit (word (c .source) (secondAt item)) ≡ 1 → ⊥) →
+  outcome-translates : (item : ℕ) → (delegateBit (word (c .source) (secondAt item)) ≡ 1 → ⊥) →
       outcome item ≡
       translateItem (stateBefore item) (callerDomain s c) (calleeDomain s c)
       (matched (reading (word (c .source) (descriptorAt item))) (reading (word (c .target) translateWindow)))
@@ -252,6 +259,25 @@ module _ (s : State) (c : Call) where
       let second = word (c .source) (secondAt item) in
       let test : eqb (delegateBit second) 1 ≡ false = ne-eqb (delegateBit second) 1 bit in
       rw test
+
+  -- where it is matched with that window, those two are what is translated; and where it is not, it is null
+  pub outcome-matched : (item : ℕ) (range window : Range) → TranslatesTo c item range window →
+      outcome item ≡ translateItem (stateBefore item) (callerDomain s c) (calleeDomain s c) (Both range window)
+  outcome-matched item range window to =
+      let bit = to .translate-bit in
+      outcome-translates item (λ one. omega arith) ∙ (rw (to .range-read, to .window-read, matched-both range window (to .same-space)))
+
+  pub outcome-untranslated : (item : ℕ) → ((range window : Range) → TranslatesTo c item range window → ⊥) → delegateBit (word (c .source) (secondAt item)) ≡ 0 →
+      (reason : Reason) × (outcome item ≡ record { received = NullItem reason; effects = [] })
+  outcome-untranslated item other bit =
+      let item-read = reading (word (c .source) (descriptorAt item)) in
+      let window-read = reading (word (c .target) translateWindow) in
+      let (reason, null) =
+      translate-unmatched (matched item-read window-read) (stateBefore item) (callerDomain s c) (calleeDomain s c)
+      (λ range window e.
+      let (range-good, window-good, same) = matched-good item-read window-read range window e in
+      other range window (record { translate-bit = bit; range-read = range-good; window-read = window-good; same-space = same })) in
+      (reason, outcome-translates item (λ one. omega arith) ∙ null)
 
   outcome-other : (item : ℕ) → ((range window : Range) → DelegatesTo c item range window → ⊥) → outcome item .effects ≡ []
   outcome-other item other =
@@ -316,22 +342,32 @@ call-granted s c answer effects block n h =
       gives-back = same-block;
     }
 
--- the state before each item is sound
-before-sound : (s : State) (c : Call) → Sound s → isEc s (c .caller) ≡ true → permitted s (objectPlace (callerDomain s c) (c .first)) PT callBit ≡ true → (item : ℕ) →
-    soundState (before s c item 0 .state) ≡ true
-before-sound s c k e p item =
-    rw (before-first s c item) (facts-sound (stateBefore s c item) (run-sound (movedBefore s c item .effects) s k (message-fits s c k e p item)))
+-- it was granted on a sound state to an EC, so that its domain is one, and the state before each item is sound
+module _ (s : State) (c : Call) (answer : ℕ) (effects : List Effect) (block : List ℕ) (n : c .number ≡ CALL) (h : rules s c ≡ grant answer effects block) where
+  pub caller-domain-small : callerDomain s c < domains
+  unfolding hypercall
+  caller-domain-small =
+      let checked = rule-checked answer effects block s c h portalCall (rw n) in
+      let facts = sound-facts s (checked .0) in
+      home s facts (callerDomain s c) (ec-home s facts (c .caller) (checked .1)) .small
+
+  pub before-sound : (item : ℕ) → soundState (before s c item 0 .state) ≡ true
+  unfolding hypercall
+  before-sound item =
+      let checked = rule-checked answer effects block s c h portalCall (rw n) in
+      let facts = sound-facts s (checked .0) in
+      let fits = message-fits s c facts (checked .1) (call-granted s c answer effects block n h .portal-permitted) item in
+      rw (before-first s c item) (facts-sound (stateBefore s c item) (run-sound (movedBefore s c item .effects) s facts fits))
 
 pub delivers-items : DeliversItems
-unfolding carried run hypercall
+unfolding carried run
 delivers-items s c answer effects block n h =
     let granted = call-granted s c answer effects block n h in
-    let checked = rule-checked answer effects block s c h portalCall (rw n) in
     record {
       from-the-call = before-first s c 0;
       each-delegated = λ item range window l to. item-delivered s c item range window to l (granted .ends);
       others-nothing = λ item l. other-item s c item;
       to-the-end = before-first s c (itemCount c) ∙ (rw (granted .ends, granted .answers));
       objects-stay = rw (granted .ends) (message-objects s c (itemCount c));
-      stays-sound = λ item l. before-sound s c (sound-facts s (checked .0)) (checked .1) (granted .portal-permitted) item;
+      stays-sound = λ item l. before-sound s c answer effects block n h item;
     }
