@@ -2,7 +2,7 @@
 use Prim.Native.Nat.{ℕ, zero, suc, _+_}
 use mathlib.Core.Path.{_≡_}
 use mathlib.Core.Bool.{Bool, true, false}
-use mathlib.Core.List.{List, [], _∷_}
+use mathlib.Core.List.{List, [], _∷_, _++_}
 use lib.Dec.{eqb}
 use Rattle.words.specs.Sizes.{memory, object, placeOf, io, places, recordWords, blockWords, domains, records, greatestDepth}
 use Rattle.words.specs.Fields.{greatestWord}
@@ -20,7 +20,7 @@ use Rattle.interface.specs.Revoke.{cuts, revoke}
 use Rattle.interface.specs.Message.{delegations, headWords, translateWindow, delegateWindow, payloadWords, untypedCount, typedCount, descriptorAt, secondAt, delegateBit, hypervisorBit, hotspotField}
 use Rattle.interface.specs.Verdicts.{Call, CALL, CREATE-PD, LOOKUP, replyOf, blockOf, CREATE-EC, CREATE-SC, CREATE-PT, CREATE-SM, REVOKE, SM-CTRL}
 use Rattle.interface.specs.Rules.{rules, after, rule, not-built, hypercall}
-use Rattle.interface.specs.Journal.{done, ended, replay, spelledLines, bodyBytes}
+use Rattle.interface.specs.Journal.{done, short, unknown, ended, replay, spelledLines, bodyBytes}
 use Rattle.descriptor.specs.Replies.{statusOf, answerOf}
 use Rattle.interface.specs.Creations.{priority, quantum, createPd, createEc, createSc, createPt, createSm}
 use Rattle.interface.specs.Lookup.{lookup}
@@ -290,6 +290,32 @@ JournalExample =
     48 ∷ 32 ∷ 54 ∷ 32 ∷ 48 ∷ 32 ∷ 48 ∷ 10 ∷
     49 ∷ 32 ∷ 56 ∷ 32 ∷ 48 ∷ 32 ∷ 49 ∷ 54 ∷ 51 ∷ 56 ∷ 53 ∷ 53 ∷ 10 ∷
     101 ∷ 110 ∷ 100 ∷ 32 ∷ 50 ∷ 10 ∷ [])
+    ∷ [])
+
+-- a whole record: LOOKUP (29, 163843), which after boot answers 0
+abbrev pub lookupRecord : List ℕ
+lookupRecord = 8 ∷ 29 ∷ 0 ∷ 0 ∷ 0 ∷ 3 ∷ 128 ∷ 2 ∷ 0 ∷ []
+
+-- where the reading of a journal stops: at its end, at a record that is short, and at a kind that is none; the last line counts the whole records before
+abbrev pub JournalStops : Type 0
+JournalStops =
+    Each
+    ( -- the empty journal: "end 0"
+    (replay [] ≡ ended 0 ∷ [])
+    ∷ (spelledLines (replay []) ≡ 101 ∷ 110 ∷ 100 ∷ 32 ∷ 48 ∷ 10 ∷ [])
+    ∷  -- a known kind byte alone: "cut", "end 0"
+    (replay (6 ∷ []) ≡ short ∷ ended 0 ∷ [])
+    ∷ (spelledLines (replay (6 ∷ [])) ≡ 99 ∷ 117 ∷ 116 ∷ 10 ∷ 101 ∷ 110 ∷ 100 ∷ 32 ∷ 48 ∷ 10 ∷ [])
+    ∷  -- a record that lacks its last byte, alone and after a whole one
+    (replay (8 ∷ 29 ∷ 0 ∷ 0 ∷ 0 ∷ 3 ∷ 128 ∷ 2 ∷ []) ≡ short ∷ ended 0 ∷ [])
+    ∷ (replay (lookupRecord ++ (8 ∷ 29 ∷ 0 ∷ 0 ∷ 0 ∷ 3 ∷ 128 ∷ 2 ∷ [])) ≡ done 0 8 0 0 ∷ short ∷ ended 1 ∷ [])
+    ∷  -- a kind that is none: at the start, and after a whole record, whatever follows it: "0 8 0 0", "bad 255", "end 1"
+    (replay (1 ∷ []) ≡ unknown 1 ∷ ended 0 ∷ [])
+    ∷ (replay (lookupRecord ++ (255 ∷ lookupRecord)) ≡ done 0 8 0 0 ∷ unknown 255 ∷ ended 1 ∷ [])
+    ∷ (spelledLines (replay (lookupRecord ++ (255 ∷ lookupRecord))) ≡
+    48 ∷ 32 ∷ 56 ∷ 32 ∷ 48 ∷ 32 ∷ 48 ∷ 10 ∷ 98 ∷ 97 ∷ 100 ∷ 32 ∷ 50 ∷ 53 ∷ 53 ∷ 10 ∷ 101 ∷ 110 ∷ 100 ∷ 32 ∷ 49 ∷ 10 ∷ [])
+    ∷  -- a record whose call is refused is whole: SM_CTRL by object 0, which is no EC
+    (replay (11 ∷ 0 ∷ 0 ∷ 0 ∷ 0 ∷ 0 ∷ 0 ∷ 0 ∷ 0 ∷ 0 ∷ 0 ∷ 0 ∷ 0 ∷ []) ≡ done 0 11 18 0 ∷ ended 1 ∷ [])
     ∷ [])
 
 -- the five words of a record at boot, and the four words of a place

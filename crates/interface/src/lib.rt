@@ -7,7 +7,7 @@ ghost use Rattle.interface.specs.Deliveries.{DeliversItems, DeliversWord
 ghost use Rattle.interface.specs.Translations.{TranslatesExactly};
 ghost use Rattle.interface.specs.DamageReport.{DamageNamed};
 ghost use Rattle.interface.specs.Demand.{LastRevokeExists, Demand3};
-ghost use Rattle.interface.specs.Examples.{WorkedExamples, MessageExample, JournalExample, RangeExample, LayoutExamples};
+ghost use Rattle.interface.specs.Examples.{WorkedExamples, MessageExample, JournalExample, JournalStops, RangeExample, LayoutExamples};
 ghost use Rattle.interface.specs.SmallCases.{SmallCases};
 ghost use Rattle.interface.specs.Journal.{PartsInTurn, PiecesInTurn};
 
@@ -164,4 +164,9 @@ pub fn layout_examples()
 // The lines of the journal's example follow from the definitions.
 pub fn journal_example()
     ensures { λ r. ⌜ JournalExample ⌝ }
+{}
+
+// Where the reading of a journal stops, and the lines that tell it, follow from the definitions.
+pub fn journal_stops()
+    ensures { λ r. ⌜ JournalStops ⌝ }
 {}
