@@ -1,4 +1,5 @@
--- The worked examples of the interface (docs/INTERFACE.md has them in words), as one list of statements under one name; and one whole message, one initial range and the journal's example.
+-- The worked examples of the interface (docs/INTERFACE.md has them in words), as one list of statements under one name; one whole message and one initial range; the journal's example
+-- and where the reading of a journal stops; and the numbers of the layout.
 use Prim.Native.Nat.{ℕ, zero, suc, _+_}
 use mathlib.Core.Path.{_≡_}
 use mathlib.Core.Bool.{Bool, true, false}
@@ -168,8 +169,9 @@ WorkedExamples =
 abbrev pub lentPage : ℕ → ℕ → ℕ → ℕ → Cap
 lentPage number permissions source depth = record { resource = number; permissions = permissions; parent = source + 1; depth = depth }
 
--- after boot the root has made PD 31 of domain 2, EC 32 in it and portal 33 to that, which it holds at selector 40; the hypervisor's pages 6 and 7 have gone to the root's pages 6
--- and 7, from there to domain 2's pages 20 and 21, and from there back to the root's pages 48 and 49, the first without permission to execute
+-- after boot there are also PD 31 of domain 2, EC 32 in it and portal 33 to that; the root holds the portal at selector 40, and capabilities for objects 31 and 32 are left out. The
+-- hypervisor's pages 6 and 7 have gone to the root's pages 6 and 7, from there to domain 2's pages 20 and 21, and from there back to the root's pages 48 and 49, the first without
+-- permission to execute
 unfoldable pub messageCap : ℕ → Cap
 messageCap place =
     if eqb place (placeOf root object 40) then parentless 33 3 else
@@ -263,8 +265,8 @@ exampleRange =
       target = [];
     }
 
--- the new PD is object 34, of domain 3, and the root has it at selector 41; domain 3 has the portal at selector 40, with permissions 3 AND 2, and nothing beside it: the root's selector 41
--- was null when the range was delegated
+-- the new PD is object 34, of domain 3, and the root has it at selector 41; domain 3 has the portal at selector 40, with permissions 3 AND 2, and nothing at selector 41: the root's
+-- selector 41 was null when the range was delegated
 abbrev pub RangeExample : Type 0
 RangeExample =
     Each

@@ -1,4 +1,4 @@
--- Small cases worked by hand, for the definitions that the manual's examples do not reach: the history, translation and the damage report.
+-- Small cases worked by hand, for the definitions that the worked examples do not reach: the history, translation and the damage report.
 use Prim.Native.Nat.{ℕ, _+_, _-_}
 use mathlib.Core.Path.{_≡_}
 use mathlib.Core.Bool.{Bool, true, false, _&&_}
@@ -38,7 +38,8 @@ lineAgain = note (give 584 392 1) (lineCut false)
 abbrev pub permissionsTold : History → List ℕ
 permissionsTold h = listed (h .total) (λ k. h .fillings k .permissions)
 
--- hypervisor pages 8 and 9, delegated to two root pages from a base on with permissions 7, and from there to pages 8 and 9 of domain 2, with permissions 7 and 3
+-- hypervisor pages 8 and 9, delegated to two root pages from a base on with permissions 7, and from there to pages 8 and 9 of domain 2, with permissions 7 and 3. It is not a sound
+-- state, since domain 2 has no PD
 abbrev pub twoPages : ℕ → State
 twoPages base =
     record {

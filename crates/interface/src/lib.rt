@@ -91,7 +91,8 @@ pub fn census_refused_exactly()
     ensures { λ r. ⌜ CensusRefusedExactly ⌝ }
 {}
 
-// A creation that succeeds leaves its object's words in the lowest free record and a capability for it at the new place, and nothing else.
+// A creation that succeeds leaves its object's words in the lowest free record and a capability for it at the new place, and changes nothing else, except that CREATE_PD may also
+// fill places of its new domain, as `delivers_range` states.
 pub fn created_exactly()
     ensures { λ r. ⌜ CreatedExactly ⌝ }
 {}
@@ -116,7 +117,7 @@ pub fn translates_exactly()
     ensures { λ r. ⌜ TranslatesExactly ⌝ }
 {}
 
-// BAD_HYP is answered exactly for a number that is not built, and BAD_CALLER exactly for a caller that is no EC number.
+// On a sound state BAD_HYP is answered exactly for a number that is not built, and BAD_CALLER exactly for a built one and a caller that is no EC number.
 pub fn dispatch_refused_exactly()
     ensures { λ r. ⌜ DispatchRefusedExactly ⌝ }
 {}
