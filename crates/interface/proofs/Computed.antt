@@ -17,8 +17,8 @@ use Rattle.interface.specs.Lookup.{uniform, largest, around, found, look
 use Rattle.interface.specs.Message.{payloadFits, sourceDomain, delegateItem, firstIn, nearest, common, translates, translateItem, itemOf, untypedCopied, carried}
 use Rattle.interface.specs.PortalCalls.{portalCall}
 use Rattle.interface.specs.Rules.{hypercall, called, rules, after}
-use Rattle.interface.specs.Journal.{bodyBytes, bodyWord, recordedCall, Line, done, ended, beginning, readBy, contentsFrom, stopLines, replay, width, spelled, spelledLines}
-use Rattle.interface.specs.Examples.{Each, calledExamples, neighbour, messageCap, messageRecord, messageState, blockBefore, blockReceived, exampleMessage, WorkedExamples, MessageExample, exampleJournal, JournalExample, exampleRange, RangeExample, LayoutExamples}
+use Rattle.interface.specs.Journal.{bodyBytes, bodyWord, recordedCall, Line, done, short, unknown, ended, beginning, readBy, contentsFrom, stopLines, replay, width, spelled, spelledLines}
+use Rattle.interface.specs.Examples.{Each, calledExamples, neighbour, messageCap, messageRecord, messageState, blockBefore, blockReceived, exampleMessage, WorkedExamples, MessageExample, exampleJournal, JournalExample, lookupRecord, JournalStops, exampleRange, RangeExample, LayoutExamples}
 use Rattle.interface.proofs.VerdictLaws.{after-granted}
 use Rattle.interface.proofs.JournalLaws.{stateLines, stateReplay, replay-shown}
 
@@ -42,6 +42,43 @@ journal-example =
     let lines : replay exampleJournal ≡ done 0 6 0 0 ∷ done 1 8 0 163855 ∷ ended 2 ∷ [] = replay-shown exampleJournal ∙ computed .1 in (
       lines,
       (ap spelledLines lines, tt),
+    )
+
+-- the lines where reading stops, on states
+stops-computed :
+    (stateReplay [] ≡ ended 0 ∷ []) × (stateReplay (6 ∷ []) ≡ short ∷ ended 0 ∷ []) ×
+    (stateReplay (8 ∷ 29 ∷ 0 ∷ 0 ∷ 0 ∷ 3 ∷ 128 ∷ 2 ∷ []) ≡ short ∷ ended 0 ∷ []) ×
+    (stateReplay (lookupRecord ++ (8 ∷ 29 ∷ 0 ∷ 0 ∷ 0 ∷ 3 ∷ 128 ∷ 2 ∷ [])) ≡ done 0 8 0 0 ∷ short ∷ ended 1 ∷ []) ×
+    (stateReplay (1 ∷ []) ≡ unknown 1 ∷ ended 0 ∷ []) ×
+    (stateReplay (lookupRecord ++ (255 ∷ lookupRecord)) ≡ done 0 8 0 0 ∷ unknown 255 ∷ ended 1 ∷ []) ×
+    (stateReplay (11 ∷ 0 ∷ 0 ∷ 0 ∷ 0 ∷ 0 ∷ 0 ∷ 0 ∷ 0 ∷ 0 ∷ 0 ∷ 0 ∷ 0 ∷ []) ≡ done 0 11 18 0 ∷ ended 1 ∷ [])
+unfolding spaceOf wellFormed wrapped reading put listed allBelow anyBelow countBelow lowest all any bootRecord hypervisorCap rootCap bootCap fixed-record fixed-place interrupt-rule unnamed-rule used-first pdsBelow pd-rule hasPd isEc ec-rule sc-rule pt-rule null-place live-place shallow keeps soundState act run found lookup hypercall called rules after bodyBytes bodyWord recordedCall beginning readBy contentsFrom stopLines stateLines
+stops-computed = (refl, refl, refl, refl, refl, refl, refl)
+
+pub journal-stops : JournalStops
+unfolding width spelled spelledLines
+journal-stops =
+    let (nothing-read, kind-alone, byte-lacking, later-lacking, no-kind, later-no-kind, refused) = stops-computed in
+    let empty-lines = replay-shown [] ∙ nothing-read in
+    let alone-lines = replay-shown (6 ∷ []) ∙ kind-alone in
+    let bad-lines = replay-shown (lookupRecord ++ (255 ∷ lookupRecord)) ∙ later-no-kind in (
+      empty-lines,
+      (
+        ap spelledLines empty-lines,
+        (
+          alone-lines,
+          (
+            ap spelledLines alone-lines,
+            (
+              replay-shown _ ∙ byte-lacking,
+              (
+                replay-shown _ ∙ later-lacking,
+                (replay-shown _ ∙ no-kind, (bad-lines, (ap spelledLines bad-lines, (replay-shown _ ∙ refused, tt)))),
+              ),
+            ),
+          ),
+        ),
+      ),
     )
 
 -- the message: its state is sound, its call comes to these steps, and those leave these places

@@ -18,8 +18,8 @@ use Rattle.interface.specs.Places.{Cap, State, Tables, parentless, count
 use Rattle.interface.specs.Boot.{boot}
 use Rattle.interface.specs.Damage.{isEc, soundState, sound}
 use Rattle.interface.specs.Effects.{Effect, give, make, hold, cut, count, fills, handed, act, run}
-use Rattle.interface.specs.Verdicts.{Call, Verdict, refuse, grant, require_else_then_, replyOf, effectsOf, blockOf}
-use Rattle.interface.specs.Creations.{creation, createPd, createEc, createSc, createPt, createSm}
+use Rattle.interface.specs.Verdicts.{Call, CALL, CREATE-PD, CREATE-EC, CREATE-SC, CREATE-PT, CREATE-SM, REVOKE, LOOKUP, SM-CTRL, Verdict, refuse, grant, require_else_then_, replyOf, effectsOf, blockOf}
+use Rattle.interface.specs.Creations.{Creation, creation, createPd, createEc, createSc, createPt, createSm}
 use Rattle.interface.specs.Revoke.{revoke}
 use Rattle.interface.specs.Lookup.{lookup}
 use Rattle.interface.specs.Semaphores.{smCtrl}
@@ -28,12 +28,12 @@ use Rattle.interface.specs.Rules.{Built, rule, not-built, hypercall, cal
 use Rattle.interface.specs.Census.{CensusResult, counted, censusOf}
 use Rattle.interface.specs.History.{Event, hypercalls, counts}
 use Rattle.interface.specs.Demand.{tablesAfter, tablesAfterAll}
-use Rattle.interface.specs.Consequences.{StaysSound, DamagedExactly, RefusedStays}
+use Rattle.interface.specs.Consequences.{StaysSound, DamagedExactly, RefusedStays, BlocksStay}
 use Rattle.interface.proofs.BoolLaws.{cases, and-left, and-right, both, one-choice, either-way}
 use Rattle.interface.proofs.PutLaws.{put-other, put-keeps}
 use Rattle.interface.proofs.Soundness.{sound-facts, facts-sound}
 use Rattle.interface.proofs.Steps.{Fits, FitInTurn}
-use Rattle.interface.proofs.RulesFit.{rules-fit}
+use Rattle.interface.proofs.RulesFit.{or-else, rules-fit}
 use Rattle.interface.proofs.CutLaws.{cut-nothing}
 use Rattle.interface.proofs.TableLaws.{length-listed, word-listed, Ends, tables-sized, shown-tables, state-sound}
 use Rattle.interface.proofs.BootLaws.{boot-sound, boot-past, boot-records, boot-words}
@@ -292,3 +292,64 @@ refused-stays =
           (either-way (λ (result : CensusResult). (statusOf (result .reply) ≡ 0 → ⊥) → result .list ≡ list) (sound tables)
           (counted (shown tables) place list) (damagedCensus list) (counted-outcome (shown tables) place list .stays) (λ n. refl));
     }
+
+-- a verdict that leaves the callee's block: a refusal, a grant that gives the block back as it was, and a choice between two such
+record LeavesBlock (target : List ℕ) (v : Verdict) : Type 0 where
+  same-block : blockOf target v ≡ target
+
+refusal-leaves : (target : List ℕ) (reply : Reply) → LeavesBlock target (refuse reply)
+refusal-leaves target reply = record { same-block = refl }
+
+grant-leaves : (target : List ℕ) (answer : ℕ) (effects : List Effect) → LeavesBlock target (grant answer effects target)
+grant-leaves target answer effects = record { same-block = refl }
+
+choice-leaves : (target : List ℕ) (test : Bool) (x y : Verdict) → LeavesBlock target x → LeavesBlock target y → LeavesBlock target (if test then x else y)
+choice-leaves target test x y h k = either-way (LeavesBlock target) test x y h k
+
+ruleset leaves-block = (choice-leaves, refusal-leaves, grant-leaves)
+
+-- no rule of a call but CALL's changes the callee's block
+module _ (s : State) (c : Call) where
+  creation-leaves : (new : Creation) → LeavesBlock (c .target) (creation s c new)
+  unfolding creation
+  creation-leaves new = search (leaves-block) depth 20
+
+  revoke-leaves : LeavesBlock (c .target) (revoke s c)
+  unfolding revoke
+  revoke-leaves = search (leaves-block) depth 20
+
+  lookup-leaves : LeavesBlock (c .target) (lookup s c)
+  unfolding lookup
+  lookup-leaves = search (leaves-block) depth 20
+
+  semaphore-leaves : LeavesBlock (c .target) (smCtrl s c)
+  unfolding smCtrl
+  semaphore-leaves = search (leaves-block) depth 20
+
+  none-leaves : LeavesBlock (c .target) (called s c not-built)
+  unfolding called
+  none-leaves = refusal-leaves (c .target) BadHyp
+
+  -- one number's rule that leaves the block, and what the other numbers stand for
+  leaves-else : (number : ℕ) (verdict : State → Call → Verdict) (others : Built) → (c .number ≡ number → LeavesBlock (c .target) (verdict s c)) →
+      LeavesBlock (c .target) (called s c others) → LeavesBlock (c .target) (called s c (if eqb (c .number) number then rule verdict else others))
+  leaves-else number verdict others f = or-else (LeavesBlock (c .target)) s c (refusal-leaves (c .target)) number verdict others (λ e n. f n)
+
+  called-leaves : (c .number ≡ CALL → ⊥) → LeavesBlock (c .target) (called s c (hypercall (c .number)))
+  unfolding hypercall createPd createEc createSc createPt createSm
+  called-leaves other =
+      leaves-else CALL portalCall _ (λ n. absurd (other n))
+      (leaves-else CREATE-PD createPd _ (λ n. creation-leaves _)
+      (leaves-else CREATE-EC createEc _ (λ n. creation-leaves _)
+      (leaves-else CREATE-SC createSc _ (λ n. creation-leaves _)
+      (leaves-else CREATE-PT createPt _ (λ n. creation-leaves _)
+      (leaves-else CREATE-SM createSm _ (λ n. creation-leaves _)
+      (leaves-else REVOKE revoke _ (λ n. revoke-leaves)
+      (leaves-else LOOKUP lookup _ (λ n. lookup-leaves)
+      (leaves-else SM-CTRL smCtrl not-built (λ n. semaphore-leaves)
+      none-leaves))))))))
+
+pub blocks-stay : BlocksStay
+unfolding rules
+blocks-stay s c other =
+    choice-leaves (c .target) (soundState s) (called s c (hypercall (c .number))) (refuse Damaged) (called-leaves s c other) (refusal-leaves (c .target) Damaged) .same-block

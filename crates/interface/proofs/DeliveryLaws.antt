@@ -12,7 +12,7 @@ use lib.ListN.{length, take, drop, take-append-drop}
 use lib.Seq.{take-all}
 use borrow.Author.Tests.{leb-true, eqb-true, eqb-false, eq-eqb, ne-eqb, ltb-true, lt-ltb, not-true}
 use Rattle.words.specs.Fields.{bits}
-use Rattle.words.specs.Sizes.{greatestDepth, blockWords}
+use Rattle.words.specs.Sizes.{domains, greatestDepth, blockWords}
 use Rattle.descriptor.specs.declared.Range.{Range}
 use Rattle.descriptor.specs.declared.Match.{Match}
 use Rattle.descriptor.specs.declared.Match.the-variants.{Both, Neither}
@@ -22,6 +22,7 @@ use Rattle.descriptor.specs.declared.Reply.the-variants.{ComTim, BadCap, BadPar
 use Rattle.descriptor.proofs.DescriptorLaws.{matched-both, matched-good}
 use Rattle.interface.specs.Basics.{word, listed}
 use Rattle.interface.specs.Places.{Cap, State, live, PT, ecWord, cpuWord, callBit, objectPlace, permitted, objectIn}
+use Rattle.interface.specs.Damage.{soundState}
 use Rattle.interface.specs.Descriptors.{reading, matched}
 use Rattle.interface.specs.Effects.{Effect, give, fills, handed, act, run, fillsOne, filled}
 use Rattle.interface.specs.Verdicts.{Call, CALL, grant, require_else_then_, callerDomain}
@@ -29,9 +30,13 @@ use Rattle.interface.specs.Message.{translateWindow, delegateWindow, del
 use Rattle.interface.specs.PortalCalls.{portalCall}
 use Rattle.interface.specs.Rules.{hypercall, rules, after}
 use Rattle.interface.specs.Consequences.{calleeDomain}
-use Rattle.interface.specs.Deliveries.{Due, Delegated, DelegatesTo, offsets, itemCount, sourceAt, destinationAt, Reached, before, ItemDelivered, DeliversItems}
+use Rattle.interface.specs.Deliveries.{Due, Delegated, DelegatesTo, TranslatesTo, offsets, itemCount, sourceAt, destinationAt, Reached, before, ItemDelivered, DeliversItems}
 use Rattle.interface.proofs.BoolLaws.{cases, and-left, and-right, each-of-four}
-use Rattle.interface.proofs.VerdictLaws.{required, rule-grants, after-granted}
+use Rattle.interface.proofs.Soundness.{sound-facts, facts-sound}
+use Rattle.interface.proofs.Sequences.{run-sound}
+use Rattle.interface.proofs.SoundFacts.{home, ec-home}
+use Rattle.interface.proofs.MessageFits.{message-fits}
+use Rattle.interface.proofs.VerdictLaws.{required, rule-grants, rule-checked, after-granted}
 use Rattle.interface.proofs.TurnLaws.{run-append, filled-append, give-others}
 use Rattle.interface.proofs.TableLaws.{length-listed, take-listed}
 use Rattle.interface.proofs.NoteLaws.{fills-leaves}
@@ -89,6 +94,12 @@ unmatched-none : (match : Match) (now : State) (sender receiver second : ℕ) �
 unfolding delegateItem
 unmatched-none (Neither reason) now sender receiver second other = (reason, refl)
 unmatched-none (Both range window) now sender receiver second other = absurd (other range window refl)
+
+translate-unmatched : (match : Match) (now : State) (sender receiver : ℕ) → ((range window : Range) → match ≡ Both range window → ⊥) →
+    (reason : Reason) × (translateItem now sender receiver match ≡ record { received = NullItem reason; effects = [] })
+unfolding translateItem
+translate-unmatched (Neither reason) now sender receiver other = (reason, refl)
+translate-unmatched (Both range window) now sender receiver other = absurd (other range window refl)
 
 translate-none : (match : Match) (now : State) (sender receiver : ℕ) → translateItem now sender receiver match .effects ≡ []
 unfolding translateItem
@@ -239,7 +250,7 @@ module _ (s : State) (c : Call) where
       other range window (record { delegate-bit = bit; range-read = range-good; window-read = window-good; same-space = same })))
 
   -- an item that translates does so on the state as it stands, in the window of word 1
-  pub outcome-translates : (item : ℕ) → (delegateBit (word (c .source) (secondAt item)) ≡ 1 → ⊥) →
+  outcome-translates : (item : ℕ) → (delegateBit (word (c .source) (secondAt item)) ≡ 1 → ⊥) →
       outcome item ≡
       translateItem (stateBefore item) (callerDomain s c) (calleeDomain s c)
       (matched (reading (word (c .source) (descriptorAt item))) (reading (word (c .target) translateWindow)))
@@ -248,6 +259,25 @@ module _ (s : State) (c : Call) where
       let second = word (c .source) (secondAt item) in
       let test : eqb (delegateBit second) 1 ≡ false = ne-eqb (delegateBit second) 1 bit in
       rw test
+
+  -- where it is matched with that window, those two are what is translated; and where it is not, it is null
+  pub outcome-matched : (item : ℕ) (range window : Range) → TranslatesTo c item range window →
+      outcome item ≡ translateItem (stateBefore item) (callerDomain s c) (calleeDomain s c) (Both range window)
+  outcome-matched item range window to =
+      let bit = to .translate-bit in
+      outcome-translates item (λ one. omega arith) ∙ (rw (to .range-read, to .window-read, matched-both range window (to .same-space)))
+
+  pub outcome-untranslated : (item : ℕ) → ((range window : Range) → TranslatesTo c item range window → ⊥) → delegateBit (word (c .source) (secondAt item)) ≡ 0 →
+      (reason : Reason) × (outcome item ≡ record { received = NullItem reason; effects = [] })
+  outcome-untranslated item other bit =
+      let item-read = reading (word (c .source) (descriptorAt item)) in
+      let window-read = reading (word (c .target) translateWindow) in
+      let (reason, null) =
+      translate-unmatched (matched item-read window-read) (stateBefore item) (callerDomain s c) (calleeDomain s c)
+      (λ range window e.
+      let (range-good, window-good, same) = matched-good item-read window-read range window e in
+      other range window (record { translate-bit = bit; range-read = range-good; window-read = window-good; same-space = same })) in
+      (reason, outcome-translates item (λ one. omega arith) ∙ null)
 
   outcome-other : (item : ℕ) → ((range window : Range) → DelegatesTo c item range window → ⊥) → outcome item .effects ≡ []
   outcome-other item other =
@@ -268,11 +298,12 @@ module _ (s : State) (c : Call) where
       (λ i l. any-item (callerDomain s c) (calleeDomain s c) (c .source) (c .target) i) in
       ap (λ (later : State). later .objects) (gives-anywhere (s .objects) (s .objects) gives (s .caps))
 
--- a granted CALL: its blocks have their lengths, its counts fit the payload, and its verdict is the message's
+-- a granted CALL: its blocks have their lengths, its counts fit the payload, its portal is permitted, and its verdict is the message's
 pub record CallGranted (s : State) (c : Call) (answer : ℕ) (block : List ℕ) : Type 0 where
   pub source-long : length (c .source) ≡ blockWords
   pub target-long : length (c .target) ≡ blockWords
   pub payload-fits : bits 0 15 (word (c .source) 0) + 2 * itemCount c ≤ 60
+  pub portal-permitted : permitted s (objectPlace (callerDomain s c) (c .first)) PT callBit ≡ true
   pub ends : after s c ≡ stateBefore s c (itemCount c)
   pub answers : answer ≡ movedBefore s c (itemCount c) .filled
   pub gives-back : block ≡ movedBefore s c (itemCount c) .block
@@ -305,10 +336,28 @@ call-granted s c answer effects block n h =
       source-long = eqb-true (length (c .source)) blockWords (and-left long-source long-target (blocks .0));
       target-long = eqb-true (length (c .target)) blockWords (and-right long-source long-target (blocks .0));
       payload-fits = leb-true (bits 0 15 (word (c .source) 0) + 2 * itemCount c) 60 (on-payload .0);
+      portal-permitted = on-portal .0;
       ends = rw same-effects at (after-granted answer effects block s c h);
       answers = same-answer;
       gives-back = same-block;
     }
+
+-- it was granted on a sound state to an EC, so that its domain is one, and the state before each item is sound
+module _ (s : State) (c : Call) (answer : ℕ) (effects : List Effect) (block : List ℕ) (n : c .number ≡ CALL) (h : rules s c ≡ grant answer effects block) where
+  pub caller-domain-small : callerDomain s c < domains
+  unfolding hypercall
+  caller-domain-small =
+      let checked = rule-checked answer effects block s c h portalCall (rw n) in
+      let facts = sound-facts s (checked .0) in
+      home s facts (callerDomain s c) (ec-home s facts (c .caller) (checked .1)) .small
+
+  pub before-sound : (item : ℕ) → soundState (before s c item 0 .state) ≡ true
+  unfolding hypercall
+  before-sound item =
+      let checked = rule-checked answer effects block s c h portalCall (rw n) in
+      let facts = sound-facts s (checked .0) in
+      let fits = message-fits s c facts (checked .1) (call-granted s c answer effects block n h .portal-permitted) item in
+      rw (before-first s c item) (facts-sound (stateBefore s c item) (run-sound (movedBefore s c item .effects) s facts fits))
 
 pub delivers-items : DeliversItems
 unfolding carried run
@@ -320,4 +369,5 @@ delivers-items s c answer effects block n h =
       others-nothing = λ item l. other-item s c item;
       to-the-end = before-first s c (itemCount c) ∙ (rw (granted .ends, granted .answers));
       objects-stay = rw (granted .ends) (message-objects s c (itemCount c));
+      stays-sound = λ item l. before-sound s c answer effects block n h item;
     }

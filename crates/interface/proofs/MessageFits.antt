@@ -154,16 +154,20 @@ pub call-so : (P : Verdict → Type 0) (s : State) (c : Call) → ((reply : Repl
 unfolding portalCall
 call-so P s c refused f = search (require-so P, refused, f) depth 20
 
--- the receiver is the portal's EC, whose domain has a PD
-pub call-fits : (s : State) (c : Call) → Sound s → isEc s (c .caller) ≡ true → FitInTurn (effectsOf (portalCall s c)) s
-call-fits s c k e =
+-- the steps of some items in turn of a call whose portal is permitted: the receiver is the portal's EC, whose domain has a PD
+pub message-fits : (s : State) (c : Call) → Sound s → isEc s (c .caller) ≡ true →
+    let portal = objectPlace (callerDomain s c) (c .first) in
+    permitted s portal PT callBit ≡ true → (n : ℕ) →
+    FitInTurn (carried s (callerDomain s c) (s .objects (s .objects (objectIn s portal) ecWord) domainWord) (c .source) (c .target) n .effects) s
+message-fits s c k e p n =
     let here = callerDomain s c in
     let portal = objectPlace here (c .first) in
     let callee = s .objects (objectIn s portal) ecWord in
     let there = s .objects callee domainWord in
-    call-so (λ (verdict : Verdict). FitInTurn (effectsOf verdict) s) s c (λ reply. tt)
-    (λ p.
     let is-callee = portal-ec s k (objectIn s portal) (own-record s k (c .caller) (c .first) PT callBit e p) (permitted-kind s portal PT callBit p) in
     let at-home = ec-home s k callee is-callee in
-    carried-fits s here there (c .source) (c .target) (home s k here (ec-home s k (c .caller) e) .small) (home s k there at-home .small) at-home
-    (typedCount (word (c .source) 0)) .fit)
+    carried-fits s here there (c .source) (c .target) (home s k here (ec-home s k (c .caller) e) .small) (home s k there at-home .small) at-home n .fit
+
+pub call-fits : (s : State) (c : Call) → Sound s → isEc s (c .caller) ≡ true → FitInTurn (effectsOf (portalCall s c)) s
+call-fits s c k e =
+    call-so (λ (verdict : Verdict). FitInTurn (effectsOf verdict) s) s c (λ reply. tt) (λ p. message-fits s c k e p (typedCount (word (c .source) 0)))

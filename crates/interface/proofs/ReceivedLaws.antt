@@ -1,6 +1,7 @@
 -- What the receiver's block holds after CALL, word by word.
 use Prim.Native.Nat.{ℕ, zero, suc, _+_, _-_, _*_, _≤_, _<_, min}
 use mathlib.Core.Path.{_≡_, refl, sym, ap, _∙_}
+use mathlib.Core.Bool.{true}
 use mathlib.Core.List.{List, [], _∷_, _++_}
 use mathlib.Core.Logic.{_≢_}
 use native.Mathlib.Decide.{le-ind}
@@ -9,18 +10,22 @@ use native.Mathlib.Omega.{arith}
 use lib.ListN.{length, take, drop, set, length-drop, length-set, List·getD-append}
 use lib.Seq.{paste, length-paste, length-paste-head, length-take-le, getD-take, getD-drop, getD-append-add, getD-set-same, getD-set-other}
 use borrow.Author.Tests.{eq-eqb, ne-eqb}
-use Rattle.words.specs.Sizes.{blockWords}
+use Rattle.words.specs.Sizes.{domains, blockWords}
 use Rattle.descriptor.specs.declared.Range.{Range}
+use Rattle.descriptor.proofs.DescriptorLaws.{good-proper}
 use Rattle.interface.specs.Basics.{word, listed}
 use Rattle.interface.specs.Places.{State}
+use Rattle.interface.specs.Damage.{soundState}
 use Rattle.interface.specs.Descriptors.{describe}
 use Rattle.interface.specs.Effects.{Effect, run, fillsOne, filled}
-use Rattle.interface.specs.Verdicts.{Call}
+use Rattle.interface.specs.Verdicts.{Call, callerDomain}
 use Rattle.interface.specs.Message.{headWords, untypedCount, descriptorAt, secondAt, delegateBit, receivedWord, Item, sourceDomain, delegateItem, untypedCopied, carried}
+use Rattle.interface.specs.Consequences.{calleeDomain}
 use Rattle.interface.specs.Deliveries.{Due, untyped, itemCount, DelegatesTo, offsets, hotBase, sourceAt, destinationAt, before, DelegateShown, TranslateShown, WordsDelivered, DeliversWords}
 use Rattle.interface.proofs.TurnLaws.{filled-append}
 use Rattle.interface.proofs.TableLaws.{take-listed}
-use Rattle.interface.proofs.DeliveryLaws.{not-due-same, due-counts, movedBefore, stateBefore, outcome, stepAt, before-first, outcome-delegates, steps-listed, outcome-unmatched, outcome-translates, CallGranted, call-granted}
+use Rattle.interface.proofs.TranslationLaws.{translates-exactly}
+use Rattle.interface.proofs.DeliveryLaws.{not-due-same, due-counts, movedBefore, stateBefore, outcome, stepAt, before-first, outcome-delegates, steps-listed, outcome-unmatched, outcome-matched, outcome-untranslated, CallGranted, call-granted, caller-domain-small, before-sound}
 
 -- A copy into a list: its words before the copy, in it, and after it.
 module _ (into from : List ℕ) (at size : ℕ) (fits : at + size ≤ length into) (enough : size ≤ length from) where
@@ -186,11 +191,22 @@ module _ (s : State) (c : Call) where
         some-due = λ range window to offset l due. e ∙ some-shown item range window to offset l due;
       }
 
-  translate-shown : (item shown : ℕ) → delegateBit (word (c .source) (secondAt item)) ≡ 0 → shown ≡ receivedWord (outcome s c item .received) →
-      TranslateShown s c item shown
-  translate-shown item shown bit e =
-      let other : delegateBit (word (c .source) (secondAt item)) ≡ 1 → ⊥ = λ one. omega arith in
-      e ∙ ap (λ (i : Item). receivedWord (i .received)) (outcome-translates s c item other) ∙ (rw (before-first s c item))
+  translate-shown : (item shown : ℕ) → callerDomain s c < domains → soundState (before s c item 0 .state) ≡ true →
+      delegateBit (word (c .source) (secondAt item)) ≡ 0 → shown ≡ receivedWord (outcome s c item .received) → TranslateShown s c item shown
+  translate-shown item shown small sound bit e =
+      record {
+        unmatched =
+            λ other.
+            let (reason, null) = outcome-untranslated s c item other bit in
+            e ∙ ap (λ (i : Item). receivedWord (i .received)) null;
+        matched-shown =
+            λ range window to.
+            e ∙ ap (λ (i : Item). receivedWord (i .received)) (outcome-matched s c item range window to) ∙ (rw (before-first s c item));
+        matched-exact =
+            λ range window to.
+            translates-exactly (before s c item 0 .state) (callerDomain s c) (calleeDomain s c) range window sound small
+            (good-proper (word (c .source) (descriptorAt item)) range (to .range-read));
+      }
 
 -- the words that are copied before the items
 module _ (source target : List ℕ) (source-long : length source ≡ blockWords) (target-long : length target ≡ blockWords)
@@ -236,7 +252,8 @@ module _ (source target : List ℕ) (source-long : length source ≡ blockWords)
       paste-tail headed (drop headWords source) headWords (untypedCount (word source 0)) room enough number l ∙
       getD-set-other target 0 number (word source 0) 0 apart
 
-module _ (s : State) (c : Call) (answer : ℕ) (block : List ℕ) (granted : CallGranted s c answer block) where
+module _ (s : State) (c : Call) (answer : ℕ) (block : List ℕ) (granted : CallGranted s c answer block) (small : callerDomain s c < domains)
+    (sound : (item : ℕ) → soundState (before s c item 0 .state) ≡ true) where
   untyped-few : untyped c ≤ 60
   untyped-few = let payload = granted .payload-fits in omega arith
 
@@ -261,7 +278,7 @@ module _ (s : State) (c : Call) (answer : ℕ) (block : List ℕ) (granted : Cal
         windows-kept = λ number l b. below-items number (omega arith) ∙ copied-head (c .source) (c .target) source-long target-long few number l (omega arith);
         untyped-copied = λ number l. below-items (4 + number) (omega arith) ∙ copied-untyped (c .source) (c .target) source-long target-long few number l;
         delegate-shown = λ item l bit. delegate-shown s c item _ bit (block-item s c all-copied item (itemCount c) l items-few .0);
-        translate-shown = λ item l bit. translate-shown s c item _ bit (block-item s c all-copied item (itemCount c) l items-few .0);
+        translate-shown = λ item l bit. translate-shown s c item _ small (sound item) bit (block-item s c all-copied item (itemCount c) l items-few .0);
         second-bit = λ item l. block-item s c all-copied item (itemCount c) l items-few .1;
         others-kept = λ number l b. below-items number b ∙ copied-tail (c .source) (c .target) source-long target-long few number l;
       }
@@ -269,4 +286,4 @@ module _ (s : State) (c : Call) (answer : ℕ) (block : List ℕ) (granted : Cal
 pub delivers-words : DeliversWords
 delivers-words s c answer effects block n h =
     let granted = call-granted s c answer effects block n h in
-    rw (granted .gives-back) (words-delivered s c answer block granted)
+    rw (granted .gives-back) (words-delivered s c answer block granted (caller-domain-small s c answer effects block n h) (before-sound s c answer effects block n h))

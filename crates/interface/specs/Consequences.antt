@@ -19,7 +19,7 @@ use Rattle.interface.specs.Boot.{boot, hypervisor, root}
 use Rattle.interface.specs.Damage.{sound}
 use Rattle.interface.specs.Descriptors.{describe, reading}
 use Rattle.interface.specs.Effects.{Effect, give, among, below, stripped}
-use Rattle.interface.specs.Verdicts.{Call, CALL, CREATE-PD, REVOKE, LOOKUP, callerDomain, grant, effectsOf}
+use Rattle.interface.specs.Verdicts.{Call, CALL, CREATE-PD, REVOKE, LOOKUP, callerDomain, grant, effectsOf, blockOf}
 use Rattle.interface.specs.Creations.{newPlace, freeRecord, nextDomain}
 use Rattle.interface.specs.Lookup.{spaceCaps}
 use Rattle.interface.specs.Message.{delegateWindow, typedCount, descriptorAt, secondAt, delegateBit, hypervisorBit}
@@ -44,6 +44,10 @@ pub record RefusedStays : Type 0 where
       (hypercallTables tables c ≡ tables) × (hypercallBlock tables c ≡ c .target)
   pub census-stays : (tables : Tables) (place : ℕ) (list : List ℕ) → (statusOf (censusOf tables place list .reply) ≡ 0 → ⊥) →
       censusOf tables place list .list ≡ list
+
+-- No call but CALL changes a word of the callee's block, whether it is granted or refused
+abbrev pub BlocksStay : Type 0
+BlocksStay = (s : State) (c : Call) → (c .number ≡ CALL → ⊥) → blockOf (c .target) (rules s c) ≡ c .target
 
 -- whether a descriptor names nothing: it is null, or the place of its base is
 abbrev pub namesNothing : State → ℕ → Reading → Bool

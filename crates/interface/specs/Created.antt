@@ -1,4 +1,5 @@
--- What a creation leaves: the record and the place of the new object, and that nothing else changes.
+-- What a creation leaves: the record and the place of the new object, and that nothing else changes, except for places of a new PD's domain: what its initial range delivers there
+-- stands with the deliveries.
 use Prim.Native.Nat.{ℕ, _+_, _%_, _<_}
 use mathlib.Core.Path.{_≡_}
 use mathlib.Core.Bool.{true, false}

@@ -11,13 +11,16 @@ use Rattle.words.specs.Sizes.{object, placeOf, domainOf, places}
 use Rattle.words.specs.Ranges.{raised}
 use Rattle.descriptor.specs.declared.Range.{Range}
 use Rattle.descriptor.specs.declared.Reading.the-variants.{Good}
+use Rattle.descriptor.specs.declared.Match.the-variants.{Both}
 use Rattle.interface.specs.Basics.{if_then_else_, word}
 use Rattle.interface.specs.Places.{State, live, nothing, domainWord, kindOf}
-use Rattle.interface.specs.Descriptors.{describe, reading, matched}
+use Rattle.interface.specs.Damage.{soundState}
+use Rattle.interface.specs.Descriptors.{describe, reading}
 use Rattle.interface.specs.Effects.{Effect, run, filled}
 use Rattle.interface.specs.Verdicts.{Call, CALL, CREATE-PD, callerDomain, grant}
 use Rattle.interface.specs.Creations.{freeRecord, nextDomain}
-use Rattle.interface.specs.Message.{receivedWord, translateItem, itemOf, carried}
+use Rattle.interface.specs.Message.{receivedWord, Item, translateItem, itemOf, carried}
+use Rattle.interface.specs.Translations.{Translated}
 use Rattle.interface.specs.Rules.{rules, after}
 use Rattle.interface.specs.Consequences.{calleeDomain}
 
@@ -61,7 +64,14 @@ pub record DelegatesTo (c : Call) (item : ℕ) (range window : Range) : Type 0 w
   pub window-read : reading (word (c .target) 2) ≡ Good window
   pub same-space : range .space ≡ window .space
 
--- it has as many offsets as the side of smaller order has places
+-- an item translates a range into a window: its second word leaves bit 0 at 0, its descriptor is read as the range, and the callee's word 1 as the window, of the same space
+pub record TranslatesTo (c : Call) (item : ℕ) (range window : Range) : Type 0 where
+  pub translate-bit : bits 0 0 (secondWord c item) ≡ 0
+  pub range-read : reading (firstWord c item) ≡ Good range
+  pub window-read : reading (word (c .target) 1) ≡ Good window
+  pub same-space : range .space ≡ window .space
+
+-- a delegation has as many offsets as the side of smaller order has places
 abbrev pub offsets : Range → Range → ℕ
 offsets range window = 2 ^ min (range .order) (window .order)
 
@@ -109,7 +119,7 @@ pub record ItemDelivered (s : State) (c : Call) (item : ℕ) (range window : Ran
   pub then-the-next : before s c (suc item) 0 ≡ before s c item (offsets range window)
 
 -- CALL delivers its items in turn: from the state before the call, where nothing has been filled; each item that delegates as it should; any other without change; and the
--- call leaves the state, and answers the count, that the last item leaves
+-- call leaves the state, and answers the count, that the last item leaves. The state before each item is sound
 pub record ItemsDelivered (s : State) (c : Call) (answer : ℕ) : Type 0 where
   pub from-the-call : before s c 0 0 ≡ record { state = s; count = 0 }
   pub each-delegated : (item : ℕ) (range window : Range) → item < itemCount c → DelegatesTo c item range window → ItemDelivered s c item range window
@@ -117,6 +127,7 @@ pub record ItemsDelivered (s : State) (c : Call) (answer : ℕ) : Type 0 where
       before s c (suc item) 0 ≡ before s c item 0
   pub to-the-end : before s c (itemCount c) 0 ≡ record { state = after s c; count = answer }
   pub objects-stay : after s c .objects ≡ s .objects
+  pub stays-sound : (item : ℕ) → item ≤ itemCount c → soundState (before s c item 0 .state) ≡ true
 
 -- Every CALL that is granted delivers its items so
 abbrev pub DeliversItems : Type 0
@@ -140,12 +151,17 @@ pub record DelegateShown (s : State) (c : Call) (item shown : ℕ) : Type 0 wher
       describe
       (record { space = range .space; base = hotBase c item range window window; order = min (range .order) (window .order); mask = range .mask })
 
--- what it is shown of an item that asks to translate: what the rule of translation shows on the state before the item, with the window of the callee's word 1
-abbrev pub TranslateShown : State → Call → (item shown : ℕ) → Type 0
-TranslateShown s c item shown =
-    shown ≡
-    receivedWord
-    (translateItem (before s c item 0 .state) (callerDomain s c) (calleeDomain s c) (matched (reading (firstWord c item)) (reading (word (c .target) 1))) .received)
+-- what the rule of translation makes of a range and a window on the state before an item
+abbrev pub translatedItem : State → Call → ℕ → Range → Range → Item
+translatedItem s c item range window = translateItem (before s c item 0 .state) (callerDomain s c) (calleeDomain s c) (Both range window)
+
+-- what it is shown of an item that asks to translate: the null descriptor, 0, where the item does not translate into a window; where it does, what the rule of translation shows,
+-- and that is exact
+pub record TranslateShown (s : State) (c : Call) (item shown : ℕ) : Type 0 where
+  pub unmatched : ((range window : Range) → TranslatesTo c item range window → ⊥) → shown ≡ 0
+  pub matched-shown : (range window : Range) → TranslatesTo c item range window → shown ≡ receivedWord (translatedItem s c item range window .received)
+  pub matched-exact : (range window : Range) → TranslatesTo c item range window →
+      Translated (before s c item 0 .state) (callerDomain s c) (calleeDomain s c) range window (translatedItem s c item range window)
 
 -- the receiver's block after CALL has 64 words: word 0 is the sender's; words 1 to 3 are its own; then come as many of the sender's as bits 0 to 15 of word 0 say; each item's
 -- two words, from word 63 downward, are what the receiver is shown and bit 0 of the second word; and the words between are its own

@@ -1,8 +1,9 @@
--- The worked examples of the interface (docs/INTERFACE.md has them in words), as one list of statements under one name; and one whole message, one initial range and the journal's example.
+-- The worked examples of the interface (docs/INTERFACE.md has them in words), as one list of statements under one name; one whole message and one initial range; the journal's example
+-- and where the reading of a journal stops; and the numbers of the layout.
 use Prim.Native.Nat.{ℕ, zero, suc, _+_}
 use mathlib.Core.Path.{_≡_}
 use mathlib.Core.Bool.{Bool, true, false}
-use mathlib.Core.List.{List, [], _∷_}
+use mathlib.Core.List.{List, [], _∷_, _++_}
 use lib.Dec.{eqb}
 use Rattle.words.specs.Sizes.{memory, object, placeOf, io, places, recordWords, blockWords, domains, records, greatestDepth}
 use Rattle.words.specs.Fields.{greatestWord}
@@ -20,7 +21,7 @@ use Rattle.interface.specs.Revoke.{cuts, revoke}
 use Rattle.interface.specs.Message.{delegations, headWords, translateWindow, delegateWindow, payloadWords, untypedCount, typedCount, descriptorAt, secondAt, delegateBit, hypervisorBit, hotspotField}
 use Rattle.interface.specs.Verdicts.{Call, CALL, CREATE-PD, LOOKUP, replyOf, blockOf, CREATE-EC, CREATE-SC, CREATE-PT, CREATE-SM, REVOKE, SM-CTRL}
 use Rattle.interface.specs.Rules.{rules, after, rule, not-built, hypercall}
-use Rattle.interface.specs.Journal.{done, ended, replay, spelledLines, bodyBytes}
+use Rattle.interface.specs.Journal.{done, short, unknown, ended, replay, spelledLines, bodyBytes}
 use Rattle.descriptor.specs.Replies.{statusOf, answerOf}
 use Rattle.interface.specs.Creations.{priority, quantum, createPd, createEc, createSc, createPt, createSm}
 use Rattle.interface.specs.Lookup.{lookup}
@@ -168,8 +169,9 @@ WorkedExamples =
 abbrev pub lentPage : ℕ → ℕ → ℕ → ℕ → Cap
 lentPage number permissions source depth = record { resource = number; permissions = permissions; parent = source + 1; depth = depth }
 
--- after boot the root has made PD 31 of domain 2, EC 32 in it and portal 33 to that, which it holds at selector 40; the hypervisor's pages 6 and 7 have gone to the root's pages 6
--- and 7, from there to domain 2's pages 20 and 21, and from there back to the root's pages 48 and 49, the first without permission to execute
+-- after boot there are also PD 31 of domain 2, EC 32 in it and portal 33 to that; the root holds the portal at selector 40, and capabilities for objects 31 and 32 are left out. The
+-- hypervisor's pages 6 and 7 have gone to the root's pages 6 and 7, from there to domain 2's pages 20 and 21, and from there back to the root's pages 48 and 49, the first without
+-- permission to execute
 unfoldable pub messageCap : ℕ → Cap
 messageCap place =
     if eqb place (placeOf root object 40) then parentless 33 3 else
@@ -263,8 +265,8 @@ exampleRange =
       target = [];
     }
 
--- the new PD is object 34, of domain 3, and the root has it at selector 41; domain 3 has the portal at selector 40, with permissions 3 AND 2, and nothing beside it: the root's selector 41
--- was null when the range was delegated
+-- the new PD is object 34, of domain 3, and the root has it at selector 41; domain 3 has the portal at selector 40, with permissions 3 AND 2, and nothing at selector 41: the root's
+-- selector 41 was null when the range was delegated
 abbrev pub RangeExample : Type 0
 RangeExample =
     Each
@@ -290,6 +292,32 @@ JournalExample =
     48 ∷ 32 ∷ 54 ∷ 32 ∷ 48 ∷ 32 ∷ 48 ∷ 10 ∷
     49 ∷ 32 ∷ 56 ∷ 32 ∷ 48 ∷ 32 ∷ 49 ∷ 54 ∷ 51 ∷ 56 ∷ 53 ∷ 53 ∷ 10 ∷
     101 ∷ 110 ∷ 100 ∷ 32 ∷ 50 ∷ 10 ∷ [])
+    ∷ [])
+
+-- a whole record: LOOKUP (29, 163843), which after boot answers 0
+abbrev pub lookupRecord : List ℕ
+lookupRecord = 8 ∷ 29 ∷ 0 ∷ 0 ∷ 0 ∷ 3 ∷ 128 ∷ 2 ∷ 0 ∷ []
+
+-- where the reading of a journal stops: at its end, at a record that is short, and at a kind that is none; the last line counts the whole records before
+abbrev pub JournalStops : Type 0
+JournalStops =
+    Each
+    ( -- the empty journal: "end 0"
+    (replay [] ≡ ended 0 ∷ [])
+    ∷ (spelledLines (replay []) ≡ 101 ∷ 110 ∷ 100 ∷ 32 ∷ 48 ∷ 10 ∷ [])
+    ∷  -- a known kind byte alone: "cut", "end 0"
+    (replay (6 ∷ []) ≡ short ∷ ended 0 ∷ [])
+    ∷ (spelledLines (replay (6 ∷ [])) ≡ 99 ∷ 117 ∷ 116 ∷ 10 ∷ 101 ∷ 110 ∷ 100 ∷ 32 ∷ 48 ∷ 10 ∷ [])
+    ∷  -- a record that lacks its last byte, alone and after a whole one
+    (replay (8 ∷ 29 ∷ 0 ∷ 0 ∷ 0 ∷ 3 ∷ 128 ∷ 2 ∷ []) ≡ short ∷ ended 0 ∷ [])
+    ∷ (replay (lookupRecord ++ (8 ∷ 29 ∷ 0 ∷ 0 ∷ 0 ∷ 3 ∷ 128 ∷ 2 ∷ [])) ≡ done 0 8 0 0 ∷ short ∷ ended 1 ∷ [])
+    ∷  -- a kind that is none: at the start, and after a whole record, whatever follows it: "0 8 0 0", "bad 255", "end 1"
+    (replay (1 ∷ []) ≡ unknown 1 ∷ ended 0 ∷ [])
+    ∷ (replay (lookupRecord ++ (255 ∷ lookupRecord)) ≡ done 0 8 0 0 ∷ unknown 255 ∷ ended 1 ∷ [])
+    ∷ (spelledLines (replay (lookupRecord ++ (255 ∷ lookupRecord))) ≡
+    48 ∷ 32 ∷ 56 ∷ 32 ∷ 48 ∷ 32 ∷ 48 ∷ 10 ∷ 98 ∷ 97 ∷ 100 ∷ 32 ∷ 50 ∷ 53 ∷ 53 ∷ 10 ∷ 101 ∷ 110 ∷ 100 ∷ 32 ∷ 49 ∷ 10 ∷ [])
+    ∷  -- a record whose call is refused is whole: SM_CTRL by object 0, which is no EC
+    (replay (11 ∷ 0 ∷ 0 ∷ 0 ∷ 0 ∷ 0 ∷ 0 ∷ 0 ∷ 0 ∷ 0 ∷ 0 ∷ 0 ∷ 0 ∷ []) ≡ done 0 11 18 0 ∷ ended 1 ∷ [])
     ∷ [])
 
 -- the five words of a record at boot, and the four words of a place

@@ -1,9 +1,9 @@
--- The interface as definitions, in the order of its manual (docs/INTERFACE.md): what to read to know what every promise of this repository says.
+-- The interface as definitions, which are what to read to know what every promise of this repository says: first those of the manual (docs/INTERFACE.md), in its order, except that
+-- CALL comes after the message that it carries; then what follows from the rules; then the examples.
 pub mod Basics
 pub mod Places
 pub mod Boot
 pub mod Damage
-pub mod DamageReport
 pub mod Descriptors
 pub mod Effects
 pub mod Verdicts
@@ -12,17 +12,18 @@ pub mod Revoke
 pub mod Lookup
 pub mod Semaphores
 pub mod Message
-pub mod Translations
 pub mod PortalCalls
 pub mod Rules
 pub mod Outcomes
 pub mod Census
 pub mod History
 pub mod Demand
+pub mod Journal
 pub mod Consequences
 pub mod Refusals
 pub mod Created
+pub mod DamageReport
+pub mod Translations
 pub mod Deliveries
-pub mod Journal
 pub mod Examples
 pub mod SmallCases

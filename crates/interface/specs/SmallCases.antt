@@ -1,9 +1,9 @@
--- Small cases worked by hand, for the definitions that the manual's examples do not reach: the history, translation and the damage report.
-use Prim.Native.Nat.{ℕ, _+_}
+-- Small cases worked by hand, for the definitions that the worked examples do not reach: the history, translation and the damage report.
+use Prim.Native.Nat.{ℕ, _+_, _-_}
 use mathlib.Core.Path.{_≡_}
-use mathlib.Core.Bool.{Bool, true, false}
+use mathlib.Core.Bool.{Bool, true, false, _&&_}
 use mathlib.Core.List.{List, [], _∷_}
-use lib.Dec.{eqb}
+use lib.Dec.{eqb, leb, ltb}
 use Rattle.descriptor.specs.declared.Range.{Range}
 use Rattle.descriptor.specs.declared.Match.the-variants.{Both}
 use Rattle.descriptor.specs.declared.Reason.the-variants.{TranslationBroke}
@@ -38,7 +38,8 @@ lineAgain = note (give 584 392 1) (lineCut false)
 abbrev pub permissionsTold : History → List ℕ
 permissionsTold h = listed (h .total) (λ k. h .fillings k .permissions)
 
--- hypervisor pages 8 and 9, delegated to two root pages from a base on with permissions 7, and from there to pages 8 and 9 of domain 2, with permissions 7 and 3
+-- hypervisor pages 8 and 9, delegated to two root pages from a base on with permissions 7, and from there to pages 8 and 9 of domain 2, with permissions 7 and 3. It is not a sound
+-- state, since domain 2 has no PD
 abbrev pub twoPages : ℕ → State
 twoPages base =
     record {
@@ -56,15 +57,67 @@ twoPages base =
 abbrev pub pagesShown : ℕ → ℕ → Range → Received
 pagesShown base receiver window = translateItem (twoPages base) 2 receiver (Both (pages 8 1) window) .received
 
--- boot's state with other words in two places, and in two records
+-- a state with other words in one place, or in one record
+abbrev pub placeChanged : State → ℕ → Cap → State
+placeChanged s place cap = record { caps = put (s .caps) place cap; objects = s .objects }
+
+abbrev pub recordChanged : State → ℕ → List ℕ → State
+recordChanged s number words = record { caps = s .caps; objects = put (s .objects) number (word words) }
+
+-- boot's state with other words in two places, and a state with other words in two records
 abbrev pub placesChanged : ℕ → ℕ → Cap → State
-placesChanged first second cap = record { caps = put (put (boot .caps) second cap) first cap; objects = boot .objects }
+placesChanged first second cap = placeChanged (placeChanged boot second cap) first cap
 
 abbrev pub recordsChanged : State → ℕ → ℕ → State
-recordsChanged s first second = record { caps = s .caps; objects = put (put (s .objects) second (word (1 ∷ []))) first (word (1 ∷ [])) }
+recordsChanged s first second = recordChanged (recordChanged s second (1 ∷ [])) first (1 ∷ [])
 
+-- boot's state with hypervisor page 0 delegated to root page 0 (place 192), from there to root page 1, and so on for as many delegations as a number says
+abbrev pub deepLine : ℕ → State
+deepLine delegations =
+    record {
+      caps =
+          λ place.
+          if leb 192 place && ltb place (192 + delegations)
+          then record { resource = 0; permissions = 7; parent = if eqb place 192 then 1 else place; depth = place - 191 }
+          else boot .caps place;
+      objects = boot .objects;
+    }
+
+-- the rule that a state breaks first, and where
 abbrev pub faultOf : State → Fault
 faultOf s = firstFault s rulesOfDamage
+
+-- the faults of boot's state with one record or one place changed, and of the line above
+abbrev pub damageCases : List (Type 0)
+damageCases =
+    ( -- rule 4: an SM with a word that it does not name; and a kind above 5
+    (faultOf (recordChanged boot 31 (5 ∷ 0 ∷ 0 ∷ 7 ∷ 0 ∷ [])) ≡ AtRecord 4 31)
+    ∷ (faultOf (recordChanged boot 31 (6 ∷ 0 ∷ 0 ∷ 0 ∷ 0 ∷ [])) ≡ AtRecord 4 31)
+    ∷  -- rule 5: a free record that is not all 0; and a used record after a free one
+    (faultOf (recordChanged boot 31 (0 ∷ 9 ∷ 0 ∷ 0 ∷ 0 ∷ [])) ≡ AtRecord 5 31)
+    ∷ (faultOf (recordChanged boot 32 (5 ∷ 0 ∷ 0 ∷ 0 ∷ 0 ∷ [])) ≡ AtRecord 5 32)
+    ∷  -- rule 6: the second PD has domain 3
+    (faultOf (recordChanged boot 31 (1 ∷ 3 ∷ 0 ∷ 0 ∷ 0 ∷ [])) ≡ AtRecord 6 31)
+    ∷  -- rule 7: an EC of domain 0, which has no PD; of CPU 4; and with event base 64
+    (faultOf (recordChanged boot 31 (2 ∷ 0 ∷ 0 ∷ 0 ∷ 0 ∷ [])) ≡ AtRecord 7 31)
+    ∷ (faultOf (recordChanged boot 31 (2 ∷ 1 ∷ 4 ∷ 0 ∷ 0 ∷ [])) ≡ AtRecord 7 31)
+    ∷ (faultOf (recordChanged boot 31 (2 ∷ 1 ∷ 0 ∷ 64 ∷ 0 ∷ [])) ≡ AtRecord 7 31)
+    ∷  -- rule 8: an SC of priority 0 or 256, of quantum 0 or 1,048,576, and for object 28, which is a PD
+    (faultOf (recordChanged boot 31 (3 ∷ 29 ∷ 0 ∷ 10 ∷ 0 ∷ [])) ≡ AtRecord 8 31)
+    ∷ (faultOf (recordChanged boot 31 (3 ∷ 29 ∷ 256 ∷ 10 ∷ 0 ∷ [])) ≡ AtRecord 8 31)
+    ∷ (faultOf (recordChanged boot 31 (3 ∷ 29 ∷ 1 ∷ 0 ∷ 0 ∷ [])) ≡ AtRecord 8 31)
+    ∷ (faultOf (recordChanged boot 31 (3 ∷ 29 ∷ 1 ∷ 1048576 ∷ 0 ∷ [])) ≡ AtRecord 8 31)
+    ∷ (faultOf (recordChanged boot 31 (3 ∷ 28 ∷ 1 ∷ 10 ∷ 0 ∷ [])) ≡ AtRecord 8 31)
+    ∷  -- rule 9: a PT for object 28
+    (faultOf (recordChanged boot 31 (4 ∷ 28 ∷ 0 ∷ 0 ∷ 0 ∷ [])) ≡ AtRecord 9 31)
+    ∷  -- rule 11: memory outside domain 0 without a parent; with a parent that holds another page; and more than all permissions
+    (faultOf (placeChanged boot 200 (record { resource = 0; permissions = 7; parent = 0; depth = 0 })) ≡ AtPlace 11 200)
+    ∷ (faultOf (placeChanged boot 200 (record { resource = 0; permissions = 7; parent = 2; depth = 1 })) ≡ AtPlace 11 200)
+    ∷ (faultOf (placeChanged boot 200 (record { resource = 0; permissions = 8; parent = 1; depth = 1 })) ≡ AtPlace 11 200)
+    ∷  -- rule 12: a line of 32 delegations, which ends at root page 31; one of 31 is no damage
+    (faultOf (deepLine 32) ≡ AtPlace 12 223)
+    ∷ (faultOf (deepLine 31) ≡ NoFault)
+    ∷ [])
 
 -- Each small case follows from the definitions
 abbrev pub SmallCases : Type 0
@@ -95,4 +148,6 @@ SmallCases =
     ∷  -- of interrupt records that are no SMs the lower one is named, and of null places that are not all 0
     (faultOf (recordsChanged boot 6 7) ≡ AtRecord 3 6)
     ∷ (faultOf (placesChanged 1000 1001 (record { resource = 1; permissions = 0; parent = 0; depth = 0 })) ≡ AtPlace 10 1000)
+    ∷  -- and one state, or more, that breaks each of the other rules first
+    Each damageCases
     ∷ [])

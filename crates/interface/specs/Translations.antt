@@ -65,7 +65,7 @@ module _ (s : State) (sender receiver : ℕ) (item window : Range) where
     pub null-so : (outcome .received ≡ NullItem TranslationBroke) ↔ Breaks
     pub one-reason : (reason : Reason) → outcome .received ≡ NullItem reason → reason ≡ TranslationBroke
 
--- Translation is exact, on every sound state, for any item and window that are ranges, from any domain to any other
+-- Translation is exact, on every sound state, for any item that is a proper range and for any window, from any domain to any domain, also to the same one
 abbrev pub TranslatesExactly : Type 0
 TranslatesExactly =
     (s : State) (sender receiver : ℕ) (item window : Range) → soundState s ≡ true → sender < domains → Proper item →

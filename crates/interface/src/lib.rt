@@ -1,13 +1,13 @@
 // The interface as definitions (specs/) and what is proved of them: each function here promises one statement and does nothing, so that its proof is the
 // statement's.
-ghost use Rattle.interface.specs.Consequences.{StaysSound, DamagedExactly, RefusedStays, NothingIsNothing, AddsNoPermission, RevokesExactly};
+ghost use Rattle.interface.specs.Consequences.{StaysSound, DamagedExactly, RefusedStays, BlocksStay, NothingIsNothing, AddsNoPermission, RevokesExactly};
 ghost use Rattle.interface.specs.Refusals.{CallRefusedExactly, CreationsRefusedExactly, SmCtrlRefusedExactly, LookupRefusedExactly, RevokeRefusedExactly, CensusRefusedExactly, DispatchRefusedExactly, MalformedExactly};
 ghost use Rattle.interface.specs.Created.{CreatedExactly};
 ghost use Rattle.interface.specs.Deliveries.{DeliversItems, DeliversWords, DeliversRange};
 ghost use Rattle.interface.specs.Translations.{TranslatesExactly};
 ghost use Rattle.interface.specs.DamageReport.{DamageNamed};
 ghost use Rattle.interface.specs.Demand.{LastRevokeExists, Demand3};
-ghost use Rattle.interface.specs.Examples.{WorkedExamples, MessageExample, JournalExample, RangeExample, LayoutExamples};
+ghost use Rattle.interface.specs.Examples.{WorkedExamples, MessageExample, JournalExample, JournalStops, RangeExample, LayoutExamples};
 ghost use Rattle.interface.specs.SmallCases.{SmallCases};
 ghost use Rattle.interface.specs.Journal.{PartsInTurn, PiecesInTurn};
 
@@ -39,6 +39,11 @@ pub fn damage_named()
 // A refused event changes no word of tables, block or list.
 pub fn refused_stays()
     ensures { λ r. ⌜ RefusedStays ⌝ }
+{}
+
+// No call but CALL changes a word of the callee's block, whether it is granted or refused.
+pub fn blocks_stay()
+    ensures { λ r. ⌜ BlocksStay ⌝ }
 {}
 
 // A selector that holds nothing is reported as nothing, and any other by the largest range around it.
@@ -86,12 +91,13 @@ pub fn census_refused_exactly()
     ensures { λ r. ⌜ CensusRefusedExactly ⌝ }
 {}
 
-// A creation that succeeds leaves its object's words in the lowest free record and a capability for it at the new place, and nothing else.
+// A creation that succeeds leaves its object's words in the lowest free record and a capability for it at the new place, and changes nothing else, except that CREATE_PD may also
+// fill places of its new domain, as `delivers_range` states.
 pub fn created_exactly()
     ensures { λ r. ⌜ CreatedExactly ⌝ }
 {}
 
-// CALL delivers its items in turn, each at each of its offsets where the delegation is due and nowhere else, and answers how many places that fills.
+// CALL delivers its items in turn, each on a sound state, at each of its offsets where the delegation is due and nowhere else, and answers how many places that fills.
 pub fn delivers_items()
     ensures { λ r. ⌜ DeliversItems ⌝ }
 {}
@@ -111,7 +117,7 @@ pub fn translates_exactly()
     ensures { λ r. ⌜ TranslatesExactly ⌝ }
 {}
 
-// BAD_HYP is answered exactly for a number that is not built, and BAD_CALLER exactly for a caller that is no EC number.
+// On a sound state BAD_HYP is answered exactly for a number that is not built, and BAD_CALLER exactly for a built one and a caller that is no EC number.
 pub fn dispatch_refused_exactly()
     ensures { λ r. ⌜ DispatchRefusedExactly ⌝ }
 {}
@@ -159,4 +165,9 @@ pub fn layout_examples()
 // The lines of the journal's example follow from the definitions.
 pub fn journal_example()
     ensures { λ r. ⌜ JournalExample ⌝ }
+{}
+
+// Where the reading of a journal stops, and the lines that tell it, follow from the definitions.
+pub fn journal_stops()
+    ensures { λ r. ⌜ JournalStops ⌝ }
 {}
