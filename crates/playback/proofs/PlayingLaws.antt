@@ -19,15 +19,16 @@ use Rattle.interface.specs.Rules.{bootReply, bootTables}
 use Rattle.interface.specs.History.{hypercalls}
 use Rattle.interface.specs.Demand.{LentOut, tablesAfterAll, historyOf}
 use Rattle.interface.specs.Outcomes.{Booted}
-use Rattle.interface.specs.Journal.{recordedCall, Line, spelledLines, beginning, Contents, contentsFrom, contents, recorded, linesFrom, lastLines, replayFrom, replay}
+use Rattle.interface.specs.Journal.{recordedCall, Line, ended, spelledLines, beginning, Contents, contentsFrom, contents, recorded, linesFrom, lastLines, replayFrom, replay}
 use Rattle.interface.proofs.BoolLaws.{cases}
 use Rattle.interface.proofs.DemandLaws.{demand-3}
 use Rattle.interface.proofs.JournalLaws.{IsRecord, NoRecord, none-read, parts-read, record-added, tables-append, lines-append, length-lines, spelled-append, parts-in-turn, replay-none}
 use Rattle.journal.specs.Texts.{lineBytes, Wrote}
 use Rattle.journal.proofs.TextLaws.{wrote-then}
-use Rattle.playback.specs.Playing.{isWhole, RoomForEach, Plays, Stops, Replays}
+use Rattle.playback.specs.Playing.{foundIn, isWhole, stopOf, RoomForEach, Plays, Stops, Replays}
+use Rattle.playback.specs.declared.Found.{Found}
 use Rattle.playback.specs.declared.Played.{Played}
-use Rattle.playback.proofs.LineLaws.{wrote-nothing}
+use Rattle.playback.proofs.LineLaws.{wrote-nothing, stop-of-found}
 use Rattle.playback.proofs.FoundLaws.{not-whole, FoundWhole, body-taken, front-next}
 
 -- one line more that has room
@@ -175,9 +176,11 @@ module _ (journal : List ℕ) (at : ℕ) {after : Tables} {records : ℕ} {text 
         let no-more : contents rest .calls ≡ [] = ap (λ (read : Contents). read .calls) (none-read rest none (length rest)) in
         rw (length-map (contents journal .calls) hypercalls, calls-split, no-more, append-nil (contents front .calls)) records-are
 
-    pub replays-all : {textAfter : List ℕ} {bytes : ℕ} → Wrote middle place (spelledLines (lastLines (beginning rest) records)) textAfter bytes →
+    pub replays-all : {next : Found} {textAfter : List ℕ} {bytes : ℕ} → next ≡ foundIn rest → Wrote middle place (spelledLines (stopOf next ++ (ended records ∷ []))) textAfter bytes →
         Replays journal records (replay journal) text after textAfter bytes
-    replays-all wrote =
+    replays-all {next} {textAfter} {bytes} found other =
+        let wrote : Wrote middle place (spelledLines (lastLines (beginning rest) records)) textAfter bytes =
+        subst (λ (l : List Line). Wrote middle place (spelledLines (l ++ (ended records ∷ []))) textAfter bytes) (stop-of-found rest next found) other in
         replays
         (rw (lines-split, replay-none after records rest none, spelled-append (linesFrom (tablesOf boot) 0 (contents front .calls)) (lastLines (beginning rest) records))
         (wrote-then zero-le (plays .writes) wrote))

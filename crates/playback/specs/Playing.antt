@@ -3,11 +3,11 @@ use Prim.Native.Nat.{ℕ, _+_, _*_, _≤_, _<_}
 use mathlib.Core.Path.{_≡_}
 use mathlib.Core.Logic.{_⊎_}
 use mathlib.Core.Bool.{Bool, true, false}
-use mathlib.Core.List.{List, []}
+use mathlib.Core.List.{List, [], _∷_}
 use lib.ListN.{length, take, drop}
 use Rattle.interface.specs.Places.{Tables, sized}
 use Rattle.interface.specs.Demand.{LentOut, tablesAfterAll, fromBoot, historyOf}
-use Rattle.interface.specs.Journal.{Line, spelledLines, Beginning, empty, of-no-kind, cut-off, whole, beginning, contents, recorded, linesFrom, replay}
+use Rattle.interface.specs.Journal.{Line, short, unknown, spelledLines, Beginning, empty, of-no-kind, cut-off, whole, beginning, contents, recorded, linesFrom, replay}
 use Rattle.journal.specs.Texts.{lineBytes, Wrote}
 use Rattle.playback.specs.declared.Found.{Found}
 use Rattle.playback.specs.declared.Found.the-variants.{Nothing, Unknown, Short, Whole}
@@ -31,6 +31,13 @@ isWhole Nothing = false
 isWhole (Unknown kind) = false
 isWhole Short = false
 isWhole (Whole kind size) = true
+
+-- the line of what stops the reading, as the code tells it: none where the bytes end, nor at a whole record, which does not stop it
+abbrev pub stopOf : Found → List Line
+stopOf Nothing = []
+stopOf (Unknown kind) = unknown kind ∷ []
+stopOf Short = short ∷ []
+stopOf (Whole kind size) = []
 
 -- lines written in turn into a buffer of so many bytes from a place on had room: before each of them, the longest line would have fitted
 abbrev pub RoomForEach : List Line → ℕ → ℕ → Type 0

@@ -45,8 +45,8 @@ unfoldable pub lastAfter : Progress → Progress → Bool
 lastAfter progress later = if isWhole (progress .next) then progress .«is_last» else eqb (later .filled) (progress .filled - progress .at)
 
 -- the bytes that were read, the journal's last or not, replayed from some tables and a count on, with their lines added at a place of the output buffer: whole records are played up
--- to where the next begins, and the progress says what begins there. A whole one is left only where the buffer has no room for the longest line, and the journal is over only where
--- nothing after it counts; but where the count could pass 64 bits no record is played, and the journal is over
+-- to where the next begins, and the progress says what begins there. A whole one is left only where the buffer has no room for the longest line, and the journal is over exactly where
+-- nothing after that counts; but where the count could pass 64 bits no record is played, and the journal is over
 pub record Turn (input : List ℕ) (last : Bool) (before : Tables) (count : ℕ) (out : List ℕ) (start : ℕ) (after : Tables) (outAfter : List ℕ) (progress : Progress) : Type 0 where
   pub all-read : progress .filled ≡ length input
   pub plays : Plays (take (progress .at) input) before count out start after (progress .done) outAfter (progress .waiting)

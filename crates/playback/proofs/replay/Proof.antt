@@ -3,7 +3,7 @@ use Prim.Native.Nat.{_+_, _*_, _≤_}
 use mathlib.Core.Path.{_≡_, refl, sym, _∙_}
 use mathlib.Core.Bool.{true}
 use native.Mathlib.Omega.{arith}
-use lib.ListN.{length, drop}
+use lib.ListN.{length}
 use denote.Ref.{now}
 use Rattle.interface.specs.Places.{sized, tablesOf, tables}
 use Rattle.interface.specs.Boot.{boot}
@@ -86,7 +86,7 @@ returns-3 c = let booted = c .before .before .before .before .before .before .be
       started booted .0,
       all-records journal (played .result .at) plays none,
       omega (arith, part-ends journal (played .result .at) plays, room),
-      replays-all journal (played .result .at) plays none (c .before .before .add-last-lines .ensures .0 (drop (played .result .at) journal) (played .ensures .1 .stands)),
+      replays-all journal (played .result .at) plays none (played .ensures .1 .stands) (c .before .before .add-last-lines .ensures .0),
     )
 
 pub replay-spec : {M : Type 1} → statement M
