@@ -1,6 +1,6 @@
 -- Positions in the buffers, a part of a buffer that is copied to its front byte by byte, and records played in a front part of a buffer.
-use Prim.Native.Nat.{ℕ, suc, _+_, _-_, _≤_, _<_}
-use mathlib.Core.Path.{_≡_, sym, ap, _∙_, subst}
+use Prim.Native.Nat.{ℕ, suc, _+_, _-_, _^_, _≤_, _<_}
+use mathlib.Core.Path.{_≡_, refl, sym, ap, _∙_, subst}
 use mathlib.Core.Bool.{Bool, true, false}
 use mathlib.Core.List.{List}
 use native.Mathlib.Nat.{zero-add}
@@ -12,7 +12,7 @@ use lib.Seq.{getD-drop, drop-at, length-take-le, take-at, paste, paste-suc}
 use Rattle.interface.specs.Places.{Tables}
 use Rattle.playback.specs.Playing.{isWhole}
 use Rattle.replay.specs.declared.Progress.{Progress}
-use Rattle.replay.specs.Buffers.{Inside, fronted, lineStart, lastAfter, Turn}
+use Rattle.replay.specs.Buffers.{Inside, fronted, lineStart, lastAfter, Turn, Standing, Follows, Turns}
 
 -- a turn of the loop: the byte that it reads is still the one that stood there, and its store copies one byte more
 module _ (before : List ℕ) (from size i : ℕ) (fits : from + size ≤ length before) (more : i < size) where
@@ -73,3 +73,13 @@ module _ (progress : Progress) (tested : Bool) (test : tested ≡ isWhole (progr
   pub last-after : tested ≡ false → (later : Progress) (filled kept : ℕ) → later .filled ≡ filled → kept ≡ progress .filled - progress .at → eqb filled kept ≡ lastAfter progress later
   unfolding lastAfter
   last-after f later filled kept is-filled is-kept = let other : isWhole (progress .next) ≡ false = sym test ∙ f in rw (other, is-filled, is-kept)
+
+-- no turn, and one turn more
+pub turns-none : (start : Standing) → Turns 0 start start
+unfolding Turns
+turns-none start = refl
+
+pub turns-more : (start : Standing) {before after : Standing} (count left : ℕ) → 0 < left → count + left ≡ 2 ^ 64 - 1 → Turns count start before → Follows before after →
+    (more : ℕ) × (more + (left - 1) ≡ 2 ^ 64 - 1) × Turns more start after
+unfolding Turns
+turns-more start {before} count left some sum turns follows = (suc count, omega arith, (before, turns, follows))

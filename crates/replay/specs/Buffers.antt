@@ -1,6 +1,7 @@
 -- The buffers of the replay program.
-use Prim.Native.Nat.{ℕ, _+_, _-_, _*_, _^_, _≤_, _<_}
+use Prim.Native.Nat.{ℕ, zero, suc, _+_, _-_, _*_, _^_, _≤_, _<_}
 use mathlib.Core.Path.{_≡_}
+use mathlib.Core.Logic.{_⊎_}
 use mathlib.Core.Bool.{Bool, true, false}
 use mathlib.Core.List.{List, _++_}
 use lib.Dec.{eqb}
@@ -60,3 +61,31 @@ pub record Turn (input : List ℕ) (last : Bool) (before : Tables) (count : ℕ)
 pub record Carries (progress : Progress) (input : List ℕ) (later : Progress) (inputAfter : List ℕ) : Type 0 where
   pub still : take (progress .filled - progress .at) inputAfter ≡ take (progress .filled - progress .at) (drop (progress .at) input)
   pub among : progress .filled - progress .at ≤ later .filled
+
+-- where the replay of a journal stands between two turns
+pub record Standing : Type 0 where
+  pub progress : Progress
+  pub tables : Tables
+  pub input : List ℕ
+  pub out : List ℕ
+
+-- the progress before the first turn, with so many bytes of lines that wait
+abbrev pub begun : ℕ → Progress
+begun waiting = record { filled = 0; at = 0; next = Nothing; done = 0; waiting = waiting; «is_last» = false; «is_over» = false }
+
+-- one turn, of a journal that is not over
+pub record Follows (before after : Standing) : Type 0 where
+  pub goes-on : before .progress .«is_over» ≡ false
+  pub turn :
+      Turn (take (after .progress .filled) (after .input)) (lastAfter (before .progress) (after .progress)) (before .tables) (before .progress .done) (before .out)
+      (lineStart (before .progress)) (after .tables) (after .out) (after .progress)
+  pub carries : Carries (before .progress) (before .input) (after .progress) (after .input)
+
+-- so many turns, one after the other
+unfoldable pub Turns : ℕ → Standing → Standing → Type 0
+Turns zero before after = before ≡ after
+Turns (suc count) before after = (middle : Standing) × Turns count before middle × Follows middle after
+
+-- turns up to where the journal is over, or as many as 64 bits count
+abbrev pub TurnsToTheEnd : Standing → Standing → Type 0
+TurnsToTheEnd before after = (count : ℕ) × Turns count before after × ((after .progress .«is_over» ≡ true) ⊎ (count ≡ 2 ^ 64 - 1))

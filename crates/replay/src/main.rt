@@ -5,7 +5,7 @@ ghost use lib.ListN.{length, take};
 ghost use Rattle.interface.specs.Places.{tables};
 ghost use Rattle.journal.specs.Texts.{lineBytes};
 ghost use Rattle.playback.specs.Playing.{isWhole};
-ghost use Rattle.replay.specs.Buffers.{Waits, Inside, isEnd, fronted, lineStart, lastAfter, Turn, Carries};
+ghost use Rattle.replay.specs.Buffers.{Waits, Inside, isEnd, fronted, lineStart, lastAfter, Turn, Carries, begun, TurnsToTheEnd};
 use journal::lines;
 use libc::STDIN_FILENO;
 use libc::STDOUT_FILENO;
@@ -193,6 +193,7 @@ fn replay_all(
 ) -> Progress
     requires { ⌜ Waits (now out) waiting ⌝ }
     ensures { λ r. ⌜ Inside r (now (input .exit)) (now (out .exit)) ⌝ }
+    ensures { λ r. ⌜ TurnsToTheEnd (record { progress = begun waiting; tables = tables (now (places .entry)) (now (objects .entry)); input = now (input .entry); out = now (out .entry) }) (record { progress = r; tables = tables (now (places .exit)) (now (objects .exit)); input = now (input .exit); out = now (out .exit) }) ⌝ }
 {
     let mut progress = Progress {
         filled: 0,
