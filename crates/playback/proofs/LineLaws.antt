@@ -16,14 +16,14 @@ use Rattle.interface.specs.Verdicts.{Call}
 use Rattle.interface.specs.Rules.{hypercallReply, hypercallTables}
 use Rattle.interface.specs.History.{hypercalls}
 use Rattle.interface.specs.Demand.{tablesAfter, tablesAfterAll}
-use Rattle.interface.specs.Journal.{recordedCall, done, short, unknown, ended, spelled, spelledLines, Beginning, empty, of-no-kind, cut-off, whole, beginning, linesFrom, stopLines, lastLines}
+use Rattle.interface.specs.Journal.{recordedCall, done, ended, spelled, spelledLines, Beginning, empty, of-no-kind, cut-off, whole, beginning, linesFrom, stopLines}
+use Rattle.interface.specs.Journal.{Line as JournalLine}
 use Rattle.interface.proofs.JournalLaws.{spelled-append}
 use Rattle.journal.specs.declared.lines.Line.{Line}
 use Rattle.journal.specs.Texts.{lineOf, lineBytes, written, fitting, Wrote}
 use Rattle.journal.proofs.TextLaws.{wrote-then}
 use Rattle.playback.specs.declared.Found.{Found}
-use Rattle.playback.specs.declared.Found.the-variants.{Nothing, Unknown, Short, Whole}
-use Rattle.playback.specs.Playing.{foundOf, foundIn}
+use Rattle.playback.specs.Playing.{foundOf, foundIn, stopOf}
 
 -- no text is written by leaving a buffer alone
 pub wrote-nothing : (out : List ℕ) (at : ℕ) → at ≤ length out → Wrote out at [] out at
@@ -96,30 +96,31 @@ line-played here index kind body {status = status} {answer = answer} is-reply is
     (one-line here index kind (recordedCall kind body) status answer (same-kind kind body) (is-status ∙ ap statusOf is-reply) (is-answer ∙ ap answerOf is-reply))
     wrote
 
--- the text of what stops the reading, as the code finds it
-abbrev stopText : Found → List ℕ
-stopText Nothing = []
-stopText (Unknown kind) = spelled (unknown kind)
-stopText Short = spelled short
-stopText (Whole kind size) = []
+-- the line of what stops the reading, as the code finds it, is that of what the bytes begin with
+stop-lines : (b : Beginning) → stopOf (foundOf b) ≡ stopLines b
+unfolding stopLines
+stop-lines empty = refl
+stop-lines (of-no-kind kind) = refl
+stop-lines cut-off = refl
+stop-lines (whole kind body later) = refl
 
-stop-text : (b : Beginning) → stopText (foundOf b) ≡ spelledLines (stopLines b)
-unfolding stopLines spelledLines
-stop-text empty = refl
-stop-text (of-no-kind kind) = sym (append-nil (spelled (unknown kind)))
-stop-text cut-off = sym (append-nil (spelled short))
-stop-text (whole kind body later) = refl
+pub stop-of-found : (left : List ℕ) (next : Found) → next ≡ foundIn left → stopOf next ≡ stopLines (beginning left)
+stop-of-found left next found = ap stopOf found ∙ stop-lines (beginning left)
 
-pub stop-written : (next told : Found) {out after : List ℕ} {at end : ℕ} → next ≡ told → Wrote out at (stopText told) after end → (left : List ℕ) → next ≡ foundIn left →
-    Wrote out at (spelledLines (stopLines (beginning left))) after end
-stop-written next told is-told wrote left found = wrote-same (ap stopText (sym is-told ∙ found) ∙ stop-text (beginning left)) wrote
+-- no line, or one, written where it was found
+pub stop-none : (next told : Found) {out after : List ℕ} {at end : ℕ} → next ≡ told → stopOf told ≡ [] → Wrote out at [] after end → Wrote out at (spelledLines (stopOf next)) after end
+unfolding spelledLines
+stop-none next told is-told none wrote = wrote-same (sym (ap (λ (f : Found). spelledLines (stopOf f)) is-told ∙ ap spelledLines none)) wrote
+
+pub stop-one : (next told : Found) (line : JournalLine) {out after : List ℕ} {at end : ℕ} → next ≡ told → stopOf told ≡ line ∷ [] → Wrote out at (spelled line) after end →
+    Wrote out at (spelledLines (stopOf next)) after end
+unfolding spelledLines
+stop-one next told line is-told one wrote =
+    wrote-same (sym (ap (λ (f : Found). spelledLines (stopOf f)) is-told ∙ ap spelledLines one ∙ append-nil (spelled line))) wrote
 
 -- the last lines
-pub last-written : (stop : Beginning) (count : ℕ) {out middle after : List ℕ} {at place end : ℕ} → at ≤ length out →
-    Wrote out at (spelledLines (stopLines stop)) middle place → Wrote middle place (spelled (ended count)) after end →
-    Wrote out at (spelledLines (lastLines stop count)) after end
+pub last-written : (lines : List JournalLine) (count : ℕ) {out middle after : List ℕ} {at place end : ℕ} → at ≤ length out → Wrote out at (spelledLines lines) middle place →
+    Wrote middle place (spelled (ended count)) after end → Wrote out at (spelledLines (lines ++ (ended count ∷ []))) after end
 unfolding spelledLines
-last-written stop count inside first second =
-    wrote-same
-    (ap (λ (l : List ℕ). spelledLines (stopLines stop) ++ l) (sym (append-nil (spelled (ended count)))) ∙ sym (spelled-append (stopLines stop) (ended count ∷ [])))
-    (wrote-then inside first second)
+last-written lines count inside first second =
+    wrote-same (ap (λ (l : List ℕ). spelledLines lines ++ l) (sym (append-nil (spelled (ended count)))) ∙ sym (spelled-append lines (ended count ∷ []))) (wrote-then inside first second)

@@ -1,12 +1,15 @@
 -- Records played in turn with their lines, and what a whole journal comes to.
-use Prim.Native.Nat.{ℕ, _+_, _-_, _≤_, zero-le}
+use Prim.Native.Nat.{ℕ, _+_, _-_, _≤_, _<_, zero-le}
 use mathlib.Core.Path.{_≡_, refl, sym, ap, _∙_, subst}
+use mathlib.Core.Logic.{_⊎_, inl, inr}
 use mathlib.Core.Bool.{true, false}
 use mathlib.Core.List.{List, [], _∷_, _++_, map, map-append, append-nil}
 use native.Mathlib.Nat.{add-zero, zero-add}
 use native.Mathlib.Omega.{arith}
 use lib.ListN.{length, take, drop, length-map, length-append, take-append-drop}
-use lib.Seq.{take-at}
+use lib.Dec.{ltb}
+use lib.Seq.{take-at, take-append-le}
+use borrow.Author.Tests.{ltb-true, ltb-false}
 use Rattle.descriptor.specs.declared.Reply.{Reply}
 use Rattle.descriptor.specs.Replies.{statusOf}
 use Rattle.interface.specs.Places.{Tables, sized, tablesOf, tables}
@@ -16,16 +19,26 @@ use Rattle.interface.specs.Rules.{bootReply, bootTables}
 use Rattle.interface.specs.History.{hypercalls}
 use Rattle.interface.specs.Demand.{LentOut, tablesAfterAll, historyOf}
 use Rattle.interface.specs.Outcomes.{Booted}
-use Rattle.interface.specs.Journal.{recordedCall, Line, spelledLines, beginning, Contents, contentsFrom, contents, recorded, linesFrom, lastLines, replayFrom, replay}
+use Rattle.interface.specs.Journal.{recordedCall, Line, ended, spelledLines, beginning, Contents, contentsFrom, contents, recorded, linesFrom, lastLines, replayFrom, replay}
 use Rattle.interface.proofs.BoolLaws.{cases}
 use Rattle.interface.proofs.DemandLaws.{demand-3}
 use Rattle.interface.proofs.JournalLaws.{IsRecord, NoRecord, none-read, parts-read, record-added, tables-append, lines-append, length-lines, spelled-append, parts-in-turn, replay-none}
 use Rattle.journal.specs.Texts.{lineBytes, Wrote}
 use Rattle.journal.proofs.TextLaws.{wrote-then}
-use Rattle.playback.specs.Playing.{isWhole, Plays, Stops, Replays}
+use Rattle.playback.specs.Playing.{foundIn, isWhole, stopOf, RoomForEach, Plays, Stops, Replays}
+use Rattle.playback.specs.declared.Found.{Found}
 use Rattle.playback.specs.declared.Played.{Played}
-use Rattle.playback.proofs.LineLaws.{wrote-nothing}
+use Rattle.playback.proofs.LineLaws.{wrote-nothing, stop-of-found}
 use Rattle.playback.proofs.FoundLaws.{not-whole, FoundWhole, body-taken, front-next}
+
+-- one line more that has room
+room-more : (first one : List Line) (at size : ℕ) → length one ≡ 1 → RoomForEach first at size → at + length (spelledLines first) + lineBytes ≤ size → RoomForEach (first ++ one) at size
+room-more first one at size is-one each more k below =
+    cases (ltb k (length first))
+    (λ (t : ltb k (length first) ≡ true).
+    let sooner = ltb-true k (length first) t in rw (take-append-le k first one (omega arith)) (each k sooner))
+    (λ (f : ltb k (length first) ≡ false).
+    let last : length first ≡ k = omega (arith, ltb-false k (length first) f, length-append first one) in rw (take-at first one k last) more)
 
 module _ (before : Tables) (index : ℕ) (out : List ℕ) (at : ℕ) (inside : at ≤ length out) where
   -- no bytes are played
@@ -37,15 +50,16 @@ module _ (before : Tables) (index : ℕ) (out : List ℕ) (at : ℕ) (inside : a
         leaves = refl;
         counts = sym (add-zero index);
         writes = wrote-nothing out at inside;
+        room = λ k below. absurd (omega arith);
       }
 
   -- one record more
   module _ {here : Tables} {next : ℕ} {middle : List ℕ} {place : ℕ} where
     plays-next : (front : List ℕ) (kind : ℕ) (body : List ℕ) {later : Tables} {outAfter : List ℕ} {end : ℕ} → Plays front before index out at here next middle place →
-        IsRecord kind body → later ≡ tablesAfterAll here (hypercalls (recordedCall kind body) ∷ []) →
+        place + lineBytes ≤ length out → IsRecord kind body → later ≡ tablesAfterAll here (hypercalls (recordedCall kind body) ∷ []) →
         Wrote middle place (spelledLines (linesFrom here next (recordedCall kind body ∷ []))) outAfter end →
         Plays (front ++ (kind ∷ body)) before index out at later (next + 1) outAfter end
-    plays-next front kind body {outAfter = outAfter} {end = end} plays one is-later wrote =
+    plays-next front kind body {outAfter = outAfter} {end = end} plays fits one is-later wrote =
         let c = recordedCall kind body in
         let calls = contents front .calls in
         let added = record-added front kind body (plays .all-whole) one in
@@ -64,18 +78,22 @@ module _ (before : Tables) (index : ℕ) (out : List ℕ) (at : ℕ) (inside : a
           writes =
               subst (λ (read : Contents). Wrote out at (spelledLines (linesFrom before index (read .calls))) outAfter end) (sym added)
               (subst (λ (t : List ℕ). Wrote out at t outAfter end) text (wrote-then inside (plays .writes) wrote));
+          room =
+              subst (λ (read : Contents). RoomForEach (linesFrom before index (read .calls)) at (length out)) (sym added)
+              (subst (λ (l : List Line). RoomForEach l at (length out)) (sym lines)
+              (room-more (linesFrom before index calls) (linesFrom here next (c ∷ [])) at (length out) (length-lines here next (c ∷ [])) (plays .room) (omega (arith, plays .writes .ends, fits))));
         }
 
     -- the record that is found where the records played end
     pub plays-more : (input : List ℕ) (from kind size : ℕ) {later : Tables} {outAfter : List ℕ} {end : ℕ} → Plays (take from input) before index out at here next middle place →
-        FoundWhole (drop from input) kind size →
+        place + lineBytes ≤ length out → FoundWhole (drop from input) kind size →
         later ≡ tablesAfterAll here (hypercalls (recordedCall kind (take (from + 1 + size - (from + 1)) (drop (from + 1) input))) ∷ []) →
         Wrote middle place (spelledLines (linesFrom here next (recordedCall kind (take (from + 1 + size - (from + 1)) (drop (from + 1) input)) ∷ []))) outAfter end →
         Plays (take (from + 1 + size) input) before index out at later (next + 1) outAfter end
-    plays-more input from kind size plays found is-later wrote =
+    plays-more input from kind size plays fits found is-later wrote =
         let body = body-taken input from kind size found in
         rw (front-next input from kind size found)
-        (plays-next (take from input) kind (found .body) plays (found .is-record) (rw body at is-later) (rw body at wrote))
+        (plays-next (take from input) kind (found .body) plays fits (found .is-record) (rw body at is-later) (rw body at wrote))
 
 -- the first events are those of the first calls
 first-events : (first second : List Call) (count : ℕ) → count ≡ length first → take count (map hypercalls (first ++ second)) ≡ map hypercalls first
@@ -92,6 +110,12 @@ plays-from-boot {bytes} {out} {outAfter} {here} {after} {index} {next} {at} {end
 pub stopped-none : {input out : List ℕ} {played : Played} → Stops input out played → played .written + lineBytes ≤ length out → NoRecord (drop (played .at) input)
 stopped-none {input} {played = played} stops room =
     not-whole (drop (played .at) input) (λ t. omega (arith, stops .no-room (ap isWhole (stops .stands) ∙ t)))
+
+-- where playing stops, either no whole record begins or there is no room for a line
+pub stopped-by : {input out : List ℕ} {played : Played} (size : ℕ) → size ≡ length out → Stops input out played → NoRecord (drop (played .at) input) ⊎ (size < played .written + lineBytes)
+stopped-by {input} {out} {played} size is-size stops =
+    cases (ltb size (played .written + lineBytes)) (λ (t : ltb size (played .written + lineBytes) ≡ true). inr (ltb-true size (played .written + lineBytes) t))
+    (λ (f : ltb size (played .written + lineBytes) ≡ false). inl (stopped-none stops (omega (arith, ltb-false size (played .written + lineBytes) f))))
 
 -- the records of a journal up to a place played from boot on
 module _ (journal : List ℕ) (at : ℕ) {after : Tables} {records : ℕ} {text middle : List ℕ} {place : ℕ}
@@ -120,6 +144,12 @@ module _ (journal : List ℕ) (at : ℕ) {after : Tables} {records : ℕ} {text 
   events-are : take records (recorded journal) ≡ recorded front
   events-are = rw calls-split (first-events (contents front .calls) (contents rest .calls) records records-are)
 
+  abbrev front-lines : List Line
+  front-lines = linesFrom (tablesOf boot) 0 (contents front .calls)
+
+  front-long : length front-lines ≡ records
+  front-long = length-lines (tablesOf boot) 0 (contents front .calls) ∙ sym records-are
+
   replays : {lines : List Line} {textAfter : List ℕ} {bytes : ℕ} → Wrote text 0 (spelledLines lines) textAfter bytes → Replays journal records lines text after textAfter bytes
   replays wrote =
       record {
@@ -127,14 +157,17 @@ module _ (journal : List ℕ) (at : ℕ) {after : Tables} {records : ℕ} {text 
         leaves = rw events-are (plays .leaves);
         lent = subst (λ (t : Tables). LentOut t (historyOf (take records (recorded journal)))) (sym (rw events-are (plays .leaves))) (demand-3 (take records (recorded journal)));
         writes = wrote;
+        room = rw (lines-split, take-at front-lines (replayFrom after records rest) records front-long) (plays .room);
       }
 
   -- the lines of the records done are the journal's first
   pub replays-part : Replays journal records (take records (replay journal)) text after middle place
   replays-part =
-      let lines = linesFrom (tablesOf boot) 0 (contents front .calls) in
-      let long = length-lines (tablesOf boot) 0 (contents front .calls) in
-      replays (rw (lines-split, take-at lines (replayFrom after records rest) records (long ∙ sym records-are)) (plays .writes))
+      replays (rw (lines-split, take-at front-lines (replayFrom after records rest) records front-long) (plays .writes))
+
+  -- and end where these are written
+  pub part-ends : place ≡ length (spelledLines (take records (replay journal)))
+  part-ends = replays-part .writes .ends ∙ zero-add _
 
   -- and with the last lines these are all
   module _ (none : NoRecord rest) where
@@ -143,12 +176,19 @@ module _ (journal : List ℕ) (at : ℕ) {after : Tables} {records : ℕ} {text 
         let no-more : contents rest .calls ≡ [] = ap (λ (read : Contents). read .calls) (none-read rest none (length rest)) in
         rw (length-map (contents journal .calls) hypercalls, calls-split, no-more, append-nil (contents front .calls)) records-are
 
-    pub replays-all : {textAfter : List ℕ} {bytes : ℕ} → Wrote middle place (spelledLines (lastLines (beginning rest) records)) textAfter bytes →
+    pub replays-all : {next : Found} {textAfter : List ℕ} {bytes : ℕ} → next ≡ foundIn rest → Wrote middle place (spelledLines (stopOf next ++ (ended records ∷ []))) textAfter bytes →
         Replays journal records (replay journal) text after textAfter bytes
-    replays-all wrote =
+    replays-all {next} {textAfter} {bytes} found other =
+        let wrote : Wrote middle place (spelledLines (lastLines (beginning rest) records)) textAfter bytes =
+        subst (λ (l : List Line). Wrote middle place (spelledLines (l ++ (ended records ∷ []))) textAfter bytes) (stop-of-found rest next found) other in
         replays
         (rw (lines-split, replay-none after records rest none, spelled-append (linesFrom (tablesOf boot) 0 (contents front .calls)) (lastLines (beginning rest) records))
         (wrote-then zero-le (plays .writes) wrote))
+
+  -- all are done, or there is no room for one more
+  pub all-or-no-room : {size : ℕ} → NoRecord rest ⊎ (size < place + lineBytes) → (records ≡ length (recorded journal)) ⊎ (size < place + lineBytes)
+  all-or-no-room (inl none) = inl (all-records none)
+  all-or-no-room (inr short) = inr short
 
 -- boot tells whether the tables have their lengths
 module _ {places objects placesAfter objectsAfter : List ℕ} {reply : Reply} (booted : Booted places objects placesAfter objectsAfter reply) where

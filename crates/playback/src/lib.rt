@@ -1,15 +1,15 @@
 // A journal on the kernel: its records found in a slice of bytes, played one by one with their lines, and replayed as a whole from boot on.
-ghost use Prim.Native.Nat.{ℕ, _+_, _*_, _^_, _≤_, _<_};
+ghost use Prim.Native.Nat.{_+_, _*_, _^_, _≤_, _<_};
 ghost use mathlib.Core.Path.{_≡_};
-ghost use mathlib.Core.List.{List, [], _∷_};
+ghost use mathlib.Core.List.{[], _∷_, _++_};
 ghost use lib.ListN.{length, take, drop};
 ghost use Rattle.interface.specs.Places.{tables};
 ghost use Rattle.interface.specs.Outcomes.{Answered, answered};
 ghost use Rattle.interface.specs.History.{hypercalls};
 ghost use Rattle.interface.specs.Demand.{tablesAfterAll};
-ghost use Rattle.interface.specs.Journal.{recordedCall, spelled, spelledLines, beginning, linesFrom, stopLines, lastLines};
+ghost use Rattle.interface.specs.Journal.{recordedCall, ended, spelled, spelledLines, linesFrom};
 ghost use Rattle.journal.specs.Texts.{lineOf, lineBytes, Wrote};
-ghost use Rattle.playback.specs.Playing.{foundIn, Plays, Stops, ReplayedAs};
+ghost use Rattle.playback.specs.Playing.{foundIn, stopOf, Plays, Stops, ReplayedAs};
 use descriptor::Reply;
 use journal::lines;
 use journal::lines::Line;
@@ -194,7 +194,7 @@ pub fn play_records(
 // Writes the line of what stops the reading into a buffer at a place: none at the end of the bytes. Answers where it ends.
 fn add_stop_line(next: Found, out: &mut [u8], at: usize) -> usize
     requires { ⌜ at + lineBytes ≤ length (now out) ⌝ }
-    ensures { λ r. ⌜ ((left : List ℕ) → next ≡ foundIn left → Wrote (now (out .entry)) at (spelledLines (stopLines (beginning left))) (now (out .exit)) r) ⌝ }
+    ensures { λ r. ⌜ Wrote (now (out .entry)) at (spelledLines (stopOf next)) (now (out .exit)) r ⌝ }
     ensures { λ r. ⌜ r ≤ at + lineBytes ⌝ }
 {
     match next {
@@ -208,7 +208,7 @@ fn add_stop_line(next: Found, out: &mut [u8], at: usize) -> usize
 // Writes the last lines into a buffer at a place: that of what stops the reading, and the number of records done. Answers where they end.
 pub fn add_last_lines(next: Found, records: u64, out: &mut [u8], at: usize) -> usize
     requires { ⌜ at + 2 * lineBytes ≤ length (now out) ⌝ }
-    ensures { λ r. ⌜ ((left : List ℕ) → next ≡ foundIn left → Wrote (now (out .entry)) at (spelledLines (lastLines (beginning left) records)) (now (out .exit)) r) ⌝ }
+    ensures { λ r. ⌜ Wrote (now (out .entry)) at (spelledLines (stopOf next ++ (ended records ∷ []))) (now (out .exit)) r ⌝ }
     ensures { λ r. ⌜ r ≤ length (now (out .exit)) ⌝ }
 {
     let end = add_stop_line(next, out, at);

@@ -1,17 +1,18 @@
 -- Positions in the buffers, a part of a buffer that is copied to its front byte by byte, and records played in a front part of a buffer.
-use Prim.Native.Nat.{ℕ, suc, _+_, _-_, _≤_, _<_}
-use mathlib.Core.Path.{_≡_, sym, ap, _∙_, subst}
+use Prim.Native.Nat.{ℕ, suc, _+_, _-_, _^_, _≤_, _<_}
+use mathlib.Core.Path.{_≡_, refl, sym, ap, _∙_, subst}
 use mathlib.Core.Bool.{Bool, true, false}
 use mathlib.Core.List.{List}
 use native.Mathlib.Nat.{zero-add}
 use native.Mathlib.Numerals.{add-one}
 use native.Mathlib.Omega.{arith}
+use lib.Dec.{eqb}
 use lib.ListN.{length, take, drop, getD, set, length-take, length-drop}
 use lib.Seq.{getD-drop, drop-at, length-take-le, take-at, paste, paste-suc}
 use Rattle.interface.specs.Places.{Tables}
 use Rattle.playback.specs.Playing.{isWhole}
 use Rattle.replay.specs.declared.Progress.{Progress}
-use Rattle.replay.specs.Buffers.{Inside, fronted, lineStart, Turn}
+use Rattle.replay.specs.Buffers.{Inside, fronted, lineStart, lastAfter, Turn, Standing, Follows, Turns}
 
 -- a turn of the loop: the byte that it reads is still the one that stood there, and its store copies one byte more
 module _ (before : List ℕ) (from size i : ℕ) (fits : from + size ≤ length before) (more : i < size) where
@@ -47,14 +48,15 @@ module _ (input : List ℕ) (count : ℕ) {progress : Progress} {out : List ℕ}
   inside-whole part =
       let front = length-take count input in record { next = part .next; read = omega arith; lines = part .lines; long = part .long }
 
-  pub turn-whole : count ≤ length input → {before after : Tables} {index start other : ℕ} {outBefore : List ℕ} → start ≡ other →
-      Turn (take count input) before index outBefore start after out progress → Turn (take (progress .filled) input) before index outBefore other after out progress
-  turn-whole fits {before} {after} {index} {start} {other} {outBefore} same turn =
+  pub turn-whole : count ≤ length input → {before after : Tables} {index start other : ℕ} {last final : Bool} {outBefore : List ℕ} → start ≡ other → last ≡ final →
+      Turn (take count input) last before index outBefore start after out progress → Turn (take (progress .filled) input) final before index outBefore other after out progress
+  turn-whole fits {before} {after} {index} {start} {other} {last} {final} {outBefore} same same-last turn =
       let all : progress .filled ≡ count = turn .all-read ∙ length-take-le count input fits in
-      subst (λ (k : ℕ). Turn (take k input) before index outBefore other after out progress) (sym all)
-      (subst (λ (k : ℕ). Turn (take count input) before index outBefore k after out progress) same turn)
+      subst (λ (k : ℕ). Turn (take k input) final before index outBefore other after out progress) (sym all)
+      (subst (λ (k : ℕ). Turn (take count input) final before index outBefore k after out progress) same
+      (subst (λ (b : Bool). Turn (take count input) b before index outBefore start after out progress) same-last turn))
 
--- where the next line goes, by the code's test
+-- where the next line goes, and whether the bytes are the last, by the code's test
 module _ (progress : Progress) (tested : Bool) (test : tested ≡ isWhole (progress .next)) where
   pub line-start-front : tested ≡ true → 0 ≡ lineStart progress
   unfolding lineStart
@@ -63,3 +65,21 @@ module _ (progress : Progress) (tested : Bool) (test : tested ≡ isWhole (progr
   pub line-start-after : tested ≡ false → progress .waiting ≡ lineStart progress
   unfolding lineStart
   line-start-after f = let other : isWhole (progress .next) ≡ false = sym test ∙ f in rw other
+
+  pub last-front : tested ≡ true → (later : Progress) → progress .«is_last» ≡ lastAfter progress later
+  unfolding lastAfter
+  last-front t later = let whole : isWhole (progress .next) ≡ true = sym test ∙ t in rw whole
+
+  pub last-after : tested ≡ false → (later : Progress) (filled kept : ℕ) → later .filled ≡ filled → kept ≡ progress .filled - progress .at → eqb filled kept ≡ lastAfter progress later
+  unfolding lastAfter
+  last-after f later filled kept is-filled is-kept = let other : isWhole (progress .next) ≡ false = sym test ∙ f in rw (other, is-filled, is-kept)
+
+-- no turn, and one turn more
+pub turns-none : (start : Standing) → Turns 0 start start
+unfolding Turns
+turns-none start = refl
+
+pub turns-more : (start : Standing) {before after : Standing} (count left : ℕ) → 0 < left → count + left ≡ 2 ^ 64 - 1 → Turns count start before → Follows before after →
+    (more : ℕ) × (more + (left - 1) ≡ 2 ^ 64 - 1) × Turns more start after
+unfolding Turns
+turns-more start {before} count left some sum turns follows = (suc count, omega arith, (before, turns, follows))

@@ -5,7 +5,7 @@ ghost use lib.ListN.{length, take};
 ghost use Rattle.interface.specs.Places.{tables};
 ghost use Rattle.journal.specs.Texts.{lineBytes};
 ghost use Rattle.playback.specs.Playing.{isWhole};
-ghost use Rattle.replay.specs.Buffers.{Waits, Inside, isEnd, fronted, lineStart, Turn, Carries};
+ghost use Rattle.replay.specs.Buffers.{Waits, Inside, isEnd, fronted, lineStart, lastAfter, Turn, Carries, begun, TurnsToTheEnd};
 use journal::lines;
 use libc::STDIN_FILENO;
 use libc::STDOUT_FILENO;
@@ -16,7 +16,7 @@ struct Progress {
     // The bytes at the front of the input buffer that were read, and where among them the next record begins.
     filled: usize,
     at: usize,
-    // What begins there: a whole record only where the output buffer has no room for its line.
+    // What begins there: a whole record only where the output buffer has no room for the longest line, or where the count could pass 64 bits.
     next: Found,
     // The records done.
     done: u64,
@@ -114,7 +114,7 @@ fn replay_read(
 ) -> Progress
     requires { ⌜ Waits (now out) waiting ⌝ }
     ensures { λ r. ⌜ Inside r (now (input .entry)) (now (out .exit)) ⌝ }
-    ensures { λ r. ⌜ Turn (now (input .entry)) (tables (now (places .entry)) (now (objects .entry))) done (now (out .entry)) waiting (tables (now (places .exit)) (now (objects .exit))) (now (out .exit)) r ⌝ }
+    ensures { λ r. ⌜ Turn (now (input .entry)) «is_last» (tables (now (places .entry)) (now (objects .entry))) done (now (out .entry)) waiting (tables (now (places .exit)) (now (objects .exit))) (now (out .exit)) r ⌝ }
 {
     if u64::MAX - done < input.len() as u64 {
         return Progress {
@@ -152,7 +152,7 @@ fn replay_more(
 ) -> Progress
     requires { ⌜ Inside progress (now input) (now out) ⌝ }
     ensures { λ r. ⌜ Inside r (now (input .exit)) (now (out .exit)) ⌝ }
-    ensures { λ r. ⌜ Turn (take (r .filled) (now (input .exit))) (tables (now (places .entry)) (now (objects .entry))) (progress .done) (now (out .entry)) (lineStart progress) (tables (now (places .exit)) (now (objects .exit))) (now (out .exit)) r ⌝ }
+    ensures { λ r. ⌜ Turn (take (r .filled) (now (input .exit))) (lastAfter progress r) (tables (now (places .entry)) (now (objects .entry))) (progress .done) (now (out .entry)) (lineStart progress) (tables (now (places .exit)) (now (objects .exit))) (now (out .exit)) r ⌝ }
     ensures { λ r. ⌜ Carries progress (now (input .entry)) r (now (input .exit)) ⌝ }
 {
     let kept = move_to_front(input, progress.at, progress.filled);
@@ -193,6 +193,7 @@ fn replay_all(
 ) -> Progress
     requires { ⌜ Waits (now out) waiting ⌝ }
     ensures { λ r. ⌜ Inside r (now (input .exit)) (now (out .exit)) ⌝ }
+    ensures { λ r. ⌜ TurnsToTheEnd (record { progress = begun waiting; tables = tables (now (places .entry)) (now (objects .entry)); input = now (input .entry); out = now (out .entry) }) (record { progress = r; tables = tables (now (places .exit)) (now (objects .exit)); input = now (input .exit); out = now (out .exit) }) ⌝ }
 {
     let mut progress = Progress {
         filled: 0,

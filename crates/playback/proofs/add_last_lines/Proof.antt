@@ -1,7 +1,7 @@
 -- The line of the end is written after that of what stopped the reading.
 use borrow.Author.Needs.{needs}
 use native.Mathlib.Omega.{arith}
-use Rattle.interface.specs.Journal.{beginning}
+use Rattle.playback.specs.Playing.{stopOf}
 use Rattle.playback.proofs.LineLaws.{last-written}
 use Rattle.playback.proofs.add_last_lines.Statement.{statement}
 use Rattle.playback.proofs.add_last_lines.Tie as tie
@@ -18,7 +18,7 @@ same-length c = search needs
 returns : tie.Need-returns
 returns c = let start = c .before .before .before .before .before .before .before .before .before in
     let ended = c .before .before .add-line .ensures .0 in (
-      λ left found. last-written (beginning left) (start .args .records) (omega (arith, start .pre)) (c .before .before .before .before .before .before .add-stop-line .ensures .0 left found) ended,
+      last-written (stopOf (start .args .next)) (start .args .records) (omega (arith, start .pre)) (c .before .before .before .before .before .before .add-stop-line .ensures .0) ended,
       ended .fits,
     )
 

@@ -117,7 +117,7 @@ loop-again c = let told = c .before .before .before .before .before .before .bef
       search needs,
       search needs,
       search needs,
-      plays-more _ _ _ _ (turn .inv .1) (now (told .before .before .before .before .before .before .before .before .before .args .input)) (turn .at) _ _ (turn .inv .8) (found told) (played .0) (played .1),
+      plays-more _ _ _ _ (turn .inv .1) (now (told .before .before .before .before .before .before .before .before .before .args .input)) (turn .at) _ _ (turn .inv .8) (omega arith) (found told) (played .0) (played .1),
     )
 
 pub play-records-spec : {M : Type 1} → statement M

@@ -1,11 +1,14 @@
 -- Boot tells whether the tables have their lengths; then the records are played, and where the buffer has room the last lines are written.
+use Prim.Native.Nat.{_+_, _*_, _≤_}
 use mathlib.Core.Path.{_≡_, refl, sym, _∙_}
 use mathlib.Core.Bool.{true}
-use lib.ListN.{drop}
+use native.Mathlib.Omega.{arith}
+use lib.ListN.{length}
 use denote.Ref.{now}
 use Rattle.interface.specs.Places.{sized, tablesOf, tables}
 use Rattle.interface.specs.Boot.{boot}
-use Rattle.playback.proofs.PlayingLaws.{plays-from-boot, stopped-none, replays-part, all-records, replays-all, boot-refused, boot-done}
+use Rattle.journal.specs.Texts.{lineBytes}
+use Rattle.playback.proofs.PlayingLaws.{plays-from-boot, stopped-none, stopped-by, replays-part, part-ends, all-records, replays-all, all-or-no-room, boot-refused, boot-done}
 use borrow.Author.Needs.{needs}
 use Rattle.playback.proofs.replay.Statement.{statement}
 use Rattle.playback.proofs.replay.Tie as tie
@@ -52,10 +55,13 @@ same-length-5 c = search needs
 
 returns-2 : tie.Need-returns-2
 returns-2 c = let booted = c .before .before .before .before .before .before .before .before .before .before .before in
-    let played = c .before .before .before .before .before .before .before .play-records in (
+    let played = c .before .before .before .before .before .before .before .play-records in
+    let journal = now (booted .before .before .before .before .before .before .before .before .before .before .before .before .before .args .journal) in
+    let plays = plays-from-boot (started booted .1) (played .ensures .0) in (
       started booted .0,
       search needs,
-      replays-part (now (booted .before .before .before .before .before .before .before .before .before .before .before .before .before .args .journal)) (played .result .at) (plays-from-boot (started booted .1) (played .ensures .0)),
+      all-or-no-room journal (played .result .at) plays (stopped-by (length (now (booted .before .before .before .before .before .before .before .before .before .before .before .before .before .args .text))) (search needs) (played .ensures .1)),
+      replays-part journal (played .result .at) plays,
     )
 
 add-last-lines-requires : tie.Need-add-last-lines-requires
@@ -75,10 +81,12 @@ returns-3 c = let booted = c .before .before .before .before .before .before .be
     let played = c .before .before .before .before .before .before .before .before .before .before .before .play-records in
     let journal = now (booted .before .before .before .before .before .before .before .before .before .before .before .before .before .args .journal) in
     let plays = plays-from-boot (started booted .1) (played .ensures .0) in
-    let none = stopped-none (played .ensures .1) (search needs) in (
+    let none = stopped-none (played .ensures .1) (search needs) in
+    let room : played .result .written + 2 * lineBytes ≤ length (now (booted .before .before .before .before .before .before .before .before .before .before .before .before .before .args .text)) = search needs in (
       started booted .0,
       all-records journal (played .result .at) plays none,
-      replays-all journal (played .result .at) plays none (c .before .before .add-last-lines .ensures .0 (drop (played .result .at) journal) (played .ensures .1 .stands)),
+      omega (arith, part-ends journal (played .result .at) plays, room),
+      replays-all journal (played .result .at) plays none (played .ensures .1 .stands) (c .before .before .add-last-lines .ensures .0),
     )
 
 pub replay-spec : {M : Type 1} → statement M

@@ -6,7 +6,7 @@ use lib.ListN.{length}
 use lib.Seq.{length-take-le}
 use denote.Ref.{now}
 use Rattle.replay.specs.Buffers.{lineStart}
-use Rattle.replay.proofs.BufferLaws.{moved-front, inside-whole, turn-whole, line-start-front, line-start-after}
+use Rattle.replay.proofs.BufferLaws.{moved-front, inside-whole, turn-whole, line-start-front, line-start-after, last-front, last-after}
 use borrow.Author.Needs.{needs}
 use Rattle.replay.proofs.replay_more.Statement.{statement}
 use Rattle.replay.proofs.replay_more.Tie as tie
@@ -52,7 +52,7 @@ returns c = let moved = c .before .before .before .before .before .before .befor
     let begun = c .before .before .before .before .before .before .before .before .before .before .before .before .before .before .before .before .before .before .before .before .before .before .before .before in
     let all = replayed .1 .all-read ∙ length-take-le (moved .result) (moved .last .0) (moved-fits (c .before .before .before .before .before .before .before .before .before .before)) in (
       inside-whole (moved .last .0) (moved .result) (replayed .0),
-      (turn-whole (moved .last .0) (moved .result) (moved-fits (c .before .before .before .before .before .before .before .before .before .before)) start (replayed .1), record { still = moved-front (now (begun .args .input)) (moved .last .0) _ _ (begun .pre .next) (begun .pre .read) (moved .ensures .1); among = omega (arith, all, moved .ensures .0) }),
+      (turn-whole (moved .last .0) (moved .result) (moved-fits (c .before .before .before .before .before .before .before .before .before .before)) start (last-front _ _ (c .before .before .before .before .before .before .before .before .before .before .before .before .before .before .is-whole .ensures) (c .before .before .before .before .before .before .before .before .before .before .before .before .before .if1 .taken) _) (replayed .1), record { still = moved-front (now (begun .args .input)) (moved .last .0) _ _ (begun .pre .next) (begun .pre .read) (moved .ensures .1); among = omega (arith, all, moved .ensures .0) }),
     )
 
 read-more-requires : tie.Need-read-more-requires
@@ -87,7 +87,7 @@ returns-2 c = let read = c .before .before .before .before .before .before .befo
     let moved = c .before .before .before .before .before .before .before .before .before .before .before .before .before .before .before .before .before .before .before .move-to-front in
     let all = replayed .1 .all-read ∙ length-take-le (read .result) (read .last .1 .1 .0) (read .ensures .0 .1) in (
       inside-whole (read .last .1 .1 .0) (read .result) (replayed .0),
-      (turn-whole (read .last .1 .1 .0) (read .result) (read .ensures .0 .1) start (replayed .1), record { still = (rw (moved .ensures .0) at (read .ensures .1)) ∙ moved-front (now (begun .args .input)) (moved .last .0) _ _ (begun .pre .next) (begun .pre .read) (moved .ensures .1); among = omega (arith, all, moved .ensures .0, read .ensures .0 .0) }),
+      (turn-whole (read .last .1 .1 .0) (read .result) (read .ensures .0 .1) start (last-after _ _ (c .before .before .before .before .before .before .before .before .before .before .before .before .before .before .before .before .is-whole .ensures) (c .before .before .before .before .before .before .before .before .before .before .before .before .before .before .before .if1 .left) _ _ _ all (moved .ensures .0)) (replayed .1), record { still = (rw (moved .ensures .0) at (read .ensures .1)) ∙ moved-front (now (begun .args .input)) (moved .last .0) _ _ (begun .pre .next) (begun .pre .read) (moved .ensures .1); among = omega (arith, all, moved .ensures .0, read .ensures .0 .0) }),
     )
 
 pub replay-more-spec : {M : Type 1} → statement M
