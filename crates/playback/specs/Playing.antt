@@ -71,8 +71,10 @@ pub record Replays (journal : List ℕ) (records : ℕ) (lines : List Line) (tex
 -- their lines, either all of them or as many until it has no room for one more of the longest lines; tables of other lengths stay, and so does the buffer
 abbrev pub ReplayedAs : Tables → List ℕ → List ℕ → Replayed → Tables → List ℕ → Type 0
 ReplayedAs before journal text (Complete records bytes) after textAfter =
-    (sized before ≡ true) × (records ≡ length (recorded journal)) × (length (spelledLines (take records (replay journal))) + 2 * lineBytes ≤ length text) × Replays journal records (replay journal) text after textAfter bytes
+    (sized before ≡ true) × (records ≡ length (recorded journal)) × (length (spelledLines (take records (replay journal))) + 2 * lineBytes ≤ length text) ×
+    Replays journal records (replay journal) text after textAfter bytes
 ReplayedAs before journal text (TooShort records bytes) after textAfter =
-    (sized before ≡ true) × (length text < bytes + 2 * lineBytes) × ((records ≡ length (recorded journal)) ⊎ (length text < bytes + lineBytes)) × Replays journal records (take records (replay journal)) text after textAfter bytes
+    (sized before ≡ true) × (length text < bytes + 2 * lineBytes) × ((records ≡ length (recorded journal)) ⊎ (length text < bytes + lineBytes)) ×
+    Replays journal records (take records (replay journal)) text after textAfter bytes
 ReplayedAs before journal text OtherLengths after textAfter =
     (sized before ≡ false) × (after ≡ before) × (textAfter ≡ text)
