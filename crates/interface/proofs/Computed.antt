@@ -10,7 +10,7 @@ use Rattle.interface.specs.Places.{State, PD, domainWord}
 use Rattle.interface.specs.Boot.{hypervisor, root, bootRecord, hypervisorCap, rootCap, bootCap}
 use Rattle.interface.specs.Damage.{fixed-record, fixed-place, interrupt-rule, unnamed-rule, used-first, pdsBelow, pd-rule, hasPd, isEc, ec-rule, sc-rule, pt-rule, null-place, live-place, shallow, keeps, soundState}
 use Rattle.interface.specs.Effects.{Effect, give, chain, ancestors, below, fills, stripped, cutCaps, act, run, fillsOne, filled, make, hold}
-use Rattle.interface.specs.Verdicts.{CALL, grant, replyOf, blockOf, CREATE-PD}
+use Rattle.interface.specs.Verdicts.{CALL, grant, deliver, replyOf, blockOf, CREATE-PD}
 use Rattle.interface.specs.Creations.{freeRecord, creation, createSm, createPd}
 use Rattle.interface.specs.Revoke.{revoke}
 use Rattle.interface.specs.Lookup.{uniform, largest, around, found, lookup}
@@ -19,7 +19,7 @@ use Rattle.interface.specs.PortalCalls.{portalCall}
 use Rattle.interface.specs.Rules.{hypercall, called, rules, after}
 use Rattle.interface.specs.Journal.{bodyBytes, bodyWord, recordedCall, Line, done, short, unknown, ended, beginning, readBy, contentsFrom, stopLines, replay, width, spelled, spelledLines}
 use Rattle.interface.specs.Examples.{Each, calledExamples, neighbour, messageCap, messageRecord, messageState, blockBefore, blockReceived, exampleMessage, WorkedExamples, MessageExample, exampleJournal, JournalExample, lookupRecord, JournalStops, exampleRange, RangeExample, LayoutExamples}
-use Rattle.interface.proofs.VerdictLaws.{after-granted}
+use Rattle.interface.proofs.VerdictLaws.{after-verdict}
 use Rattle.interface.proofs.JournalLaws.{stateLines, stateReplay, replay-shown}
 
 called-examples : Each calledExamples
@@ -92,16 +92,16 @@ message-sound : soundState messageState ≡ true
 unfolding messageCap messageRecord spaceOf allBelow anyBelow countBelow all bootRecord hypervisorCap rootCap bootCap fixed-record fixed-place interrupt-rule unnamed-rule used-first pdsBelow pd-rule hasPd isEc ec-rule sc-rule pt-rule null-place live-place shallow keeps soundState
 message-sound = refl
 
-message-called : called messageState exampleMessage (hypercall CALL) ≡ grant 4 messageGives blockReceived
+message-called : called messageState exampleMessage (hypercall CALL) ≡ deliver 4 messageGives blockReceived
 unfolding messageCap messageRecord spaceOf wellFormed wrapped reading matched put listed allBelow bootRecord hypervisorCap rootCap bootCap isEc chain ancestors fills act run fillsOne filled payloadFits sourceDomain delegateItem firstIn nearest common translates translateItem itemOf untypedCopied carried portalCall hypercall called
 message-called = refl
 
-message-granted : rules messageState exampleMessage ≡ grant 4 messageGives blockReceived
+message-granted : rules messageState exampleMessage ≡ deliver 4 messageGives blockReceived
 unfolding rules
 message-granted = rw message-sound message-called
 
 message-places : (place : ℕ) → after messageState exampleMessage .caps place ≡ run messageGives messageState .caps place
-message-places place = ap (λ (s : State). s .caps place) (after-granted 4 messageGives blockReceived messageState exampleMessage message-granted)
+message-places place = ap (λ (s : State). s .caps place) (after-verdict messageState exampleMessage (deliver 4 messageGives blockReceived) message-granted)
 
 pub computed-message : MessageExample
 unfolding messageCap spaceOf put hypervisorCap bootCap fills act run
@@ -127,16 +127,16 @@ abbrev rangeSteps : List Effect
 rangeSteps =
     make 34 (PD ∷ 3 ∷ []) ∷ listed 8 (λ i. give (placeOf 3 object (40 + i)) (placeOf root object (40 + i)) 2) ++ (hold (placeOf root object 41) 34 ∷ [])
 
-range-called : called messageState exampleRange (hypercall CREATE-PD) ≡ grant 0 rangeSteps []
+range-called : called messageState exampleRange (hypercall CREATE-PD) ≡ grant 0 rangeSteps
 unfolding messageCap messageRecord spaceOf wellFormed wrapped reading listed countBelow lowest bootRecord hypervisorCap rootCap bootCap pdsBelow isEc freeRecord creation createPd hypercall called
 range-called = refl
 
-range-granted : rules messageState exampleRange ≡ grant 0 rangeSteps []
+range-granted : rules messageState exampleRange ≡ grant 0 rangeSteps
 unfolding rules
 range-granted = rw message-sound range-called
 
 range-after : after messageState exampleRange ≡ run rangeSteps messageState
-range-after = after-granted 0 rangeSteps [] messageState exampleRange range-granted
+range-after = after-verdict messageState exampleRange (grant 0 rangeSteps) range-granted
 
 pub computed-range : RangeExample
 unfolding messageCap messageRecord spaceOf put listed bootRecord hypervisorCap rootCap bootCap fills act run

@@ -18,7 +18,7 @@ use Rattle.interface.specs.Places.{Cap, State, Tables, parentless, count
 use Rattle.interface.specs.Boot.{boot}
 use Rattle.interface.specs.Damage.{isEc, soundState, sound}
 use Rattle.interface.specs.Effects.{Effect, give, make, hold, cut, count, fills, handed, act, run}
-use Rattle.interface.specs.Verdicts.{Call, CALL, CREATE-PD, CREATE-EC, CREATE-SC, CREATE-PT, CREATE-SM, REVOKE, LOOKUP, SM-CTRL, Verdict, refuse, grant, require_else_then_, replyOf, effectsOf, blockOf}
+use Rattle.interface.specs.Verdicts.{Call, CALL, CREATE-PD, CREATE-EC, CREATE-SC, CREATE-PT, CREATE-SM, REVOKE, LOOKUP, SM-CTRL, Verdict, refuse, grant, deliver, require_else_then_, replyOf, effectsOf, blockOf}
 use Rattle.interface.specs.Creations.{Creation, creation, createPd, createEc, createSc, createPt, createSm}
 use Rattle.interface.specs.Revoke.{revoke}
 use Rattle.interface.specs.Lookup.{lookup}
@@ -185,20 +185,23 @@ all-stay-sound (event ∷ events) tables h = all-stay-sound events (tablesAfter 
 other-reply : (reply : Reply) → eqb (statusOf reply) (statusOf Damaged) ≡ false → reply ≡ Damaged → ⊥
 other-reply reply h e = eqb-false (statusOf reply) (statusOf Damaged) h (ap statusOf e)
 
--- a verdict whose reply is not DAMAGED: a refusal with another reply, a grant, and a choice between two such
+-- a verdict whose reply is not DAMAGED: a refusal with another reply, a grant, a delivery, and a choice between two such
 record Undamaged (v : Verdict) : Type 0 where
   apart : replyOf v ≡ Damaged → ⊥
 
 undamaged-refusal : (reply : Reply) → eqb (statusOf reply) (statusOf Damaged) ≡ false → Undamaged (refuse reply)
 undamaged-refusal reply h = record { apart = other-reply reply h }
 
-undamaged-grant : (answer : ℕ) (effects : List Effect) (block : List ℕ) → Undamaged (grant answer effects block)
-undamaged-grant answer effects block = record { apart = other-reply (Success answer) refl }
+undamaged-grant : (answer : ℕ) (effects : List Effect) → Undamaged (grant answer effects)
+undamaged-grant answer effects = record { apart = other-reply (Success answer) refl }
+
+undamaged-delivery : (answer : ℕ) (effects : List Effect) (block : List ℕ) → Undamaged (deliver answer effects block)
+undamaged-delivery answer effects block = record { apart = other-reply (Success answer) refl }
 
 undamaged-choice : (test : Bool) (x y : Verdict) → Undamaged x → Undamaged y → Undamaged (if test then x else y)
 undamaged-choice test x y h k = either-way Undamaged test x y h k
 
-ruleset undamaged = (undamaged-choice, undamaged-refusal, undamaged-grant)
+ruleset undamaged = (undamaged-choice, undamaged-refusal, undamaged-grant, undamaged-delivery)
 
 -- no rule of a call answers DAMAGED
 module _ (s : State) (c : Call) where
@@ -270,7 +273,8 @@ damaged-exactly =
 -- a verdict that does not succeed takes no steps and leaves the callee's block
 pub refused-nothing : (target : List ℕ) (v : Verdict) → (statusOf (replyOf v) ≡ 0 → ⊥) → (effectsOf v ≡ []) × (blockOf target v ≡ target)
 refused-nothing target (refuse reply) n = (refl, refl)
-refused-nothing target (grant answer effects block) n = absurd (n refl)
+refused-nothing target (grant answer effects) n = absurd (n refl)
+refused-nothing target (deliver answer effects block) n = absurd (n refl)
 
 -- a refused call leaves the tables, whatever their lengths
 tables-stay : (tables : Tables) (c : Call) → (statusOf (hypercallReply tables c) ≡ 0 → ⊥) → hypercallTables tables c ≡ tables
@@ -293,14 +297,14 @@ refused-stays =
           (counted (shown tables) place list) (damagedCensus list) (counted-outcome (shown tables) place list .stays) (λ n. refl));
     }
 
--- a verdict that leaves the callee's block: a refusal, a grant that gives the block back as it was, and a choice between two such
+-- a verdict that leaves the callee's block: a refusal, a grant, and a choice between two such
 record LeavesBlock (target : List ℕ) (v : Verdict) : Type 0 where
   same-block : blockOf target v ≡ target
 
 refusal-leaves : (target : List ℕ) (reply : Reply) → LeavesBlock target (refuse reply)
 refusal-leaves target reply = record { same-block = refl }
 
-grant-leaves : (target : List ℕ) (answer : ℕ) (effects : List Effect) → LeavesBlock target (grant answer effects target)
+grant-leaves : (target : List ℕ) (answer : ℕ) (effects : List Effect) → LeavesBlock target (grant answer effects)
 grant-leaves target answer effects = record { same-block = refl }
 
 choice-leaves : (target : List ℕ) (test : Bool) (x y : Verdict) → LeavesBlock target x → LeavesBlock target y → LeavesBlock target (if test then x else y)

@@ -30,23 +30,23 @@ use Rattle.interface.proofs.Soundness.{sound-facts}
 use Rattle.interface.proofs.SoundObjects.{free-there, used-below-free}
 use Rattle.interface.proofs.SoundFacts.{home, ec-home, has-pd}
 use Rattle.interface.proofs.TurnLaws.{run-append}
-use Rattle.interface.proofs.VerdictLaws.{after-granted}
+use Rattle.interface.proofs.VerdictLaws.{after-verdict}
 use Rattle.interface.proofs.CreationsFit.{stored, stored-words, Granted, stepsOf, granted-so, Initial, no-initial, initial-gives, pd-initial}
 use Rattle.interface.proofs.RefusalLaws.{by-rule}
 use Rattle.interface.proofs.CreationRefusals.{Grants, pd-grants, ec-grants, sc-grants, pt-grants, sm-grants}
 
 -- a creation that is granted was checked, and leaves what its steps do
 module _ (s : State) (c : Call) (new : Creation) (is : rules s c ≡ creation s c new) (grants : Grants s c) where
-  steps-so : Granted s c new × (grant 0 (stepsOf s c new) (c .target) ≡ grant 0 (grants .0) (c .target))
+  steps-so : Granted s c new × (grant 0 (stepsOf s c new) ≡ grant 0 (grants .0))
   steps-so =
-      granted-so (λ (verdict : Verdict). verdict ≡ grant 0 (grants .0) (c .target) → Granted s c new × (grant 0 (stepsOf s c new) (c .target) ≡ grant 0 (grants .0) (c .target))) s c new
+      granted-so (λ (verdict : Verdict). verdict ≡ grant 0 (grants .0) → Granted s c new × (grant 0 (stepsOf s c new) ≡ grant 0 (grants .0))) s c new
       (λ reply e. let z : _≡_ {A = ℕ} 0 1 = cc in absurd (omega arith)) (λ checks e. (checks, e)) (sym is ∙ grants .1)
 
   was-checked : Granted s c new
   was-checked = steps-so .0
 
   after-steps : after s c ≡ run (stepsOf s c new) s
-  after-steps = after-granted 0 (stepsOf s c new) (c .target) s c (grants .1 ∙ sym (steps-so .1))
+  after-steps = after-verdict s c (grant 0 (stepsOf s c new)) (grants .1 ∙ sym (steps-so .1))
 
   -- the state after it: the object is stored, then the delegations are made, then the new place is filled
   module _ (initial : Initial s c new) where

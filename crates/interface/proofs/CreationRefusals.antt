@@ -39,7 +39,7 @@ creation-asks : (s : State) (c : Call) (new : Creation) →
     require new .cpu-good else BadCpu then
     require new .parameters-good else BadPar then
     require new .domain-left && ltb (freeRecord s) records else NoRoom then
-    grant 0 (stepsOf s c new) (c .target))
+    grant 0 (stepsOf s c new))
 unfolding creation
 creation-asks s c new =
     let null = not (live (s .caps (newPlace s c))) in
@@ -49,7 +49,7 @@ creation-asks s c new =
     require new .cpu-good else BadCpu then
     require new .parameters-good else BadPar then
     require room else NoRoom then
-    grant 0 (stepsOf s c new) (c .target) in
+    grant 0 (stepsOf s c new) in
     let left = ltb (freeRecord s) records in
     let room = left && new .domain-left in
     one-choice null by-pd (require new .bindable else BadCap then last room) (refuse BadCap) ∙ one-choice (null && by-pd) (new .bindable) (last room) (refuse BadCap) ∙
@@ -131,26 +131,26 @@ decides-cpu cpu =
       apart = λ l g. omega arith;
     }
 
--- a call is granted with answer 0, and leaves the block
+-- a call is granted with answer 0
 abbrev pub Grants : State → Call → Type 0
-Grants s c = (effects : List Effect) × (rules s c ≡ grant 0 effects (c .target))
+Grants s c = (effects : List Effect) × (rules s c ≡ grant 0 effects)
 
 -- a call's verdict that is its checks' in turn, and then such a grant
 abbrev Checked : State → Call → List Check → Type 0
-Checked s c checks = (effects : List Effect) × (rules s c ≡ verdictInTurn checks (grant 0 effects (c .target)))
+Checked s c checks = (effects : List Effect) × (rules s c ≡ verdictInTurn checks (grant 0 effects))
 
 module _ (s : State) (c : Call) (checks : List Check) (is : Checked s c checks) where
   creation-refused : (refusal : Reply) → Refusal refusal → (replyOf (rules s c) ≡ refusal) ↔ Cause checks refusal
-  creation-refused = refused-exactly s c checks 0 (is .0) (c .target) (is .1)
+  creation-refused = refused-exactly s c checks (grant 0 (is .0)) 0 refl (is .1)
 
   creation-granted : (replyOf (rules s c) ≡ Success 0) ↔ Passed checks
-  creation-granted = granted-exactly s c checks 0 (is .0) (c .target) (is .1)
+  creation-granted = granted-exactly s c checks (grant 0 (is .0)) 0 refl (is .1)
 
   creation-grants : replyOf (rules s c) ≡ Success 0 → Grants s c
-  creation-grants g = (is .0, passed-grants s c checks 0 (is .0) (c .target) (is .1) g)
+  creation-grants g = (is .0, passed-grants s c checks (grant 0 (is .0)) 0 refl (is .1) g)
 
   creation-status : (statuses : List ℕ) → member 0 statuses ≡ true → allAmong statuses checks ≡ true → member (statusOf (replyOf (rules s c))) statuses ≡ true
-  creation-status = no-other s c checks 0 (is .0) (c .target) (is .1)
+  creation-status = no-other s c checks (grant 0 (is .0)) 0 refl (is .1)
 
 -- the checks of each creation
 module _ (s : State) (c : Call) (sound : soundState s ≡ true) (e : isEc s (c .caller) ≡ true) where

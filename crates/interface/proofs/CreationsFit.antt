@@ -137,12 +137,12 @@ stepsOf s c new = make (freeRecord s) (new .words) ∷ new .delegations ++ (hold
 
 -- what holds of every refusal, and of a creation's steps once it has been checked, holds of it
 pub granted-so : (P : Verdict → Type 0) (s : State) (c : Call) (new : Creation) → ((reply : Reply) → P (refuse reply)) →
-    (Granted s c new → P (grant 0 (stepsOf s c new) (c .target))) → P (creation s c new)
+    (Granted s c new → P (grant 0 (stepsOf s c new))) → P (creation s c new)
 unfolding creation
 granted-so P s c new refused f =
     let has-room = ltb (freeRecord s) records in
     let granted : not (live (s .caps (newPlace s c))) ≡ true → permitted s (pdPlace s c) PD (createBit (new .kind)) ≡ true → new .bindable ≡ true → new .cpu-good ≡ true →
-    new .parameters-good ≡ true → (has-room && new .domain-left) ≡ true → P (grant 0 (stepsOf s c new) (c .target)) =
+    new .parameters-good ≡ true → (has-room && new .domain-left) ≡ true → P (grant 0 (stepsOf s c new)) =
     λ null by-pd bound on-cpu parameters room.
     f
     (record {

@@ -25,7 +25,7 @@ use Rattle.interface.specs.Places.{Cap, State, live, PT, ecWord, cpuWord
 use Rattle.interface.specs.Damage.{soundState}
 use Rattle.interface.specs.Descriptors.{reading, matched}
 use Rattle.interface.specs.Effects.{Effect, give, fills, handed, act, run, fillsOne, filled}
-use Rattle.interface.specs.Verdicts.{Call, CALL, grant, require_else_then_, callerDomain}
+use Rattle.interface.specs.Verdicts.{Call, CALL, deliver, require_else_then_, callerDomain}
 use Rattle.interface.specs.Message.{translateWindow, delegateWindow, delegateBit, payloadFits, descriptorAt, secondAt, Item, Moved, delegateItem, translateItem, sourceDomain, delegations, itemOf, carried}
 use Rattle.interface.specs.PortalCalls.{portalCall}
 use Rattle.interface.specs.Rules.{hypercall, rules, after}
@@ -36,7 +36,7 @@ use Rattle.interface.proofs.Soundness.{sound-facts, facts-sound}
 use Rattle.interface.proofs.Sequences.{run-sound}
 use Rattle.interface.proofs.SoundFacts.{home, ec-home}
 use Rattle.interface.proofs.MessageFits.{message-fits}
-use Rattle.interface.proofs.VerdictLaws.{required, rule-grants, rule-checked, after-granted}
+use Rattle.interface.proofs.VerdictLaws.{required, rule-grants, rule-checked, after-verdict}
 use Rattle.interface.proofs.TurnLaws.{run-append, filled-append, give-others}
 use Rattle.interface.proofs.TableLaws.{length-listed, take-listed}
 use Rattle.interface.proofs.NoteLaws.{fills-leaves}
@@ -308,22 +308,23 @@ pub record CallGranted (s : State) (c : Call) (answer : ℕ) (block : List ℕ) 
   pub answers : answer ≡ movedBefore s c (itemCount c) .filled
   pub gives-back : block ≡ movedBefore s c (itemCount c) .block
 
-pub call-granted : (s : State) (c : Call) (answer : ℕ) (effects : List Effect) (block : List ℕ) → c .number ≡ CALL → rules s c ≡ grant answer effects block →
+pub call-granted : (s : State) (c : Call) (answer : ℕ) (effects : List Effect) (block : List ℕ) → c .number ≡ CALL → rules s c ≡ deliver answer effects block →
     CallGranted s c answer block
 unfolding hypercall portalCall payloadFits
 call-granted s c answer effects block n h =
     let portal = objectPlace (callerDomain s c) (c .first) in
     let callee = s .objects (objectIn s portal) ecWord in
     let moved = movedBefore s c (itemCount c) in
-    let last = grant (moved .filled) (moved .effects) (moved .block) in
+    let last = deliver (moved .filled) (moved .effects) (moved .block) in
     let with-payload = require payloadFits (word (c .source) 0) else BadPar then last in
     let with-cpu = require eqb (s .objects callee cpuWord) (s .objects (c .caller) cpuWord) else BadCpu then with-payload in
     let with-callee = require not (eqb callee (c .caller)) else ComTim then with-cpu in
     let with-portal = require permitted s portal PT callBit else BadCap then with-callee in
     let long-source = eqb (length (c .source)) blockWords in
     let long-target = eqb (length (c .target)) blockWords in
-    let required-of = required answer effects block in
-    let by-rule = rule-grants answer effects block s c h portalCall (rw n) in
+    let given = deliver answer effects block in
+    let required-of = required given refl in
+    let by-rule = rule-grants given refl s c h portalCall (rw n) in
     let blocks = required-of (long-source && long-target) BadPar with-portal by-rule in
     let on-portal = required-of (permitted s portal PT callBit) BadCap with-callee (blocks .1) in
     let on-callee = required-of (not (eqb callee (c .caller))) ComTim with-cpu (on-portal .1) in
@@ -337,24 +338,24 @@ call-granted s c answer effects block n h =
       target-long = eqb-true (length (c .target)) blockWords (and-right long-source long-target (blocks .0));
       payload-fits = leb-true (bits 0 15 (word (c .source) 0) + 2 * itemCount c) 60 (on-payload .0);
       portal-permitted = on-portal .0;
-      ends = rw same-effects at (after-granted answer effects block s c h);
+      ends = rw same-effects at (after-verdict s c given h);
       answers = same-answer;
       gives-back = same-block;
     }
 
 -- it was granted on a sound state to an EC, so that its domain is one, and the state before each item is sound
-module _ (s : State) (c : Call) (answer : ℕ) (effects : List Effect) (block : List ℕ) (n : c .number ≡ CALL) (h : rules s c ≡ grant answer effects block) where
+module _ (s : State) (c : Call) (answer : ℕ) (effects : List Effect) (block : List ℕ) (n : c .number ≡ CALL) (h : rules s c ≡ deliver answer effects block) where
   pub caller-domain-small : callerDomain s c < domains
   unfolding hypercall
   caller-domain-small =
-      let checked = rule-checked answer effects block s c h portalCall (rw n) in
+      let checked = rule-checked (deliver answer effects block) refl s c h portalCall (rw n) in
       let facts = sound-facts s (checked .0) in
       home s facts (callerDomain s c) (ec-home s facts (c .caller) (checked .1)) .small
 
   pub before-sound : (item : ℕ) → soundState (before s c item 0 .state) ≡ true
   unfolding hypercall
   before-sound item =
-      let checked = rule-checked answer effects block s c h portalCall (rw n) in
+      let checked = rule-checked (deliver answer effects block) refl s c h portalCall (rw n) in
       let facts = sound-facts s (checked .0) in
       let fits = message-fits s c facts (checked .1) (call-granted s c answer effects block n h .portal-permitted) item in
       rw (before-first s c item) (facts-sound (stateBefore s c item) (run-sound (movedBefore s c item .effects) s facts fits))

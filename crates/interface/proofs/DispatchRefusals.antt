@@ -13,7 +13,7 @@ use Rattle.interface.specs.Basics.{if_then_else_, any, member}
 use Rattle.interface.specs.Places.{State}
 use Rattle.interface.specs.Damage.{soundState, isEc}
 use Rattle.interface.specs.Effects.{Effect}
-use Rattle.interface.specs.Verdicts.{Call, Verdict, refuse, grant, replyOf}
+use Rattle.interface.specs.Verdicts.{Call, Verdict, refuse, grant, deliver, replyOf}
 use Rattle.interface.specs.Creations.{creation, createPd, createEc, createSc, createPt, createSm}
 use Rattle.interface.specs.Revoke.{revoke}
 use Rattle.interface.specs.Lookup.{lookup}
@@ -24,7 +24,7 @@ use Rattle.interface.specs.Refusals.{builtNumbers, NamesEc, DispatchRefu
 use Rattle.interface.proofs.BoolLaws.{cases, not-both, either-way}
 use Rattle.interface.proofs.SoundFacts.{ec-small, ec-kind, is-ec}
 
--- a verdict whose reply is neither BAD_HYP nor BAD_CALLER: a refusal with another reply, a grant, and a choice between two such
+-- a verdict whose reply is neither BAD_HYP nor BAD_CALLER: a refusal with another reply, a grant, a delivery, and a choice between two such
 abbrev isOuter : Reply → Bool
 isOuter reply = eqb (statusOf reply) (statusOf BadHyp) || eqb (statusOf reply) (statusOf BadCaller)
 
@@ -34,8 +34,11 @@ record OwnReply (v : Verdict) : Type 0 where
 own-refusal : (reply : Reply) → isOuter reply ≡ false → OwnReply (refuse reply)
 own-refusal reply h = record { own = h }
 
-own-grant : (answer : ℕ) (effects : List Effect) (block : List ℕ) → OwnReply (grant answer effects block)
-own-grant answer effects block = record { own = refl }
+own-grant : (answer : ℕ) (effects : List Effect) → OwnReply (grant answer effects)
+own-grant answer effects = record { own = refl }
+
+own-delivery : (answer : ℕ) (effects : List Effect) (block : List ℕ) → OwnReply (deliver answer effects block)
+own-delivery answer effects block = record { own = refl }
 
 own-choice : (test : Bool) (x y : Verdict) → OwnReply x → OwnReply y → OwnReply (if test then x else y)
 own-choice test x y h k = either-way OwnReply test x y h k
@@ -56,7 +59,7 @@ module _ (s : State) (c : Call) where
 
   dispatched : Dispatched (member (c .number) builtNumbers) (hypercall (c .number))
   unfolding hypercall member any portalCall creation createPd createEc createSc createPt createSm revoke lookup smCtrl
-  dispatched = search (dispatched-or, dispatched-none, own-choice, own-refusal, own-grant) depth 20
+  dispatched = search (dispatched-or, dispatched-none, own-choice, own-refusal, own-grant, own-delivery) depth 20
 
   module _ (sound : soundState s ≡ true) where
     -- a number that is not built

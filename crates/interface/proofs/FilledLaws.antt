@@ -113,7 +113,7 @@ module _ (s : State) (c : Call) where
   -- a creation's steps are its delegations, once its object is stored, and then the new place's filling
   module _ (new : Creation) (asked : OnlyGives Asks (new .delegations)) (is-creation : kindCreated (c .number) ≡ free → ⊥)
       (of-kind : word (new .words) kindWord ≡ kindCreated (c .number)) where
-    steps-add : Granted s c new → Initial s c new → Adds (grant 0 (stepsOf s c new) (c .target))
+    steps-add : Granted s c new → Initial s c new → Adds (grant 0 (stepsOf s c new))
     unfolding run act
     steps-add granted initial =
         let number = freeRecord s in
@@ -217,13 +217,13 @@ module _ (s : State) (c : Call) where
   lookup-adds : Adds (lookup s c)
   unfolding lookup run
   lookup-adds =
-      let granted = grant (found s (callerDomain s c) (reading (c .first))) [] (c .target) in
+      let granted = grant (found s (callerDomain s c) (reading (c .first))) [] in
       require-adds (not (malformed (reading (c .first)))) BadPar granted (λ _. stays-adds granted (λ place. refl))
 
   -- SM_CTRL's step leaves each place
-  count-adds : (number value : ℕ) → Adds (grant 0 (count number value ∷ []) (c .target))
+  count-adds : (number value : ℕ) → Adds (grant 0 (count number value ∷ []))
   unfolding run act
-  count-adds number value = stays-adds (grant 0 (count number value ∷ []) (c .target)) (λ place. refl)
+  count-adds number value = stays-adds (grant 0 (count number value ∷ [])) (λ place. refl)
 
   semaphore-adds : Adds (smCtrl s c)
   semaphore-adds = semaphore-so Adds s c refusal-adds (λ p value. count-adds (objectIn s (objectPlace (callerDomain s c) (c .first))) value)

@@ -30,7 +30,7 @@ use Rattle.interface.proofs.Soundness.{Sound, sound-facts}
 use Rattle.interface.proofs.PlaceFacts.{null-cap, live-facts}
 use Rattle.interface.proofs.SoundFacts.{object-place-domain, home, ec-home}
 use Rattle.interface.proofs.TurnLaws.{run-append, give-others, gives, gives-others}
-use Rattle.interface.proofs.VerdictLaws.{rule-grants, rule-checked, after-granted}
+use Rattle.interface.proofs.VerdictLaws.{rule-grants, rule-checked, after-verdict}
 use Rattle.interface.proofs.CreationsFit.{stored, stored-words, Granted, stepsOf, granted-so, Initial, pd-initial}
 use Rattle.interface.proofs.DelegationLaws.{give-hands}
 use Rattle.interface.proofs.DeliveryLaws.{due-fills, handed-delegated, not-due-same}
@@ -243,11 +243,12 @@ module _ (s : State) (c : Call) (k : Sound s) (e : isEc s (c .caller) ≡ true) 
 
 pub delivers-range : DeliversRange
 unfolding hypercall createPd
-delivers-range s c answer effects block n h =
-    let checked = rule-checked answer effects block s c h createPd (rw n) in
-    granted-so (λ (verdict : Verdict). verdict ≡ grant answer effects block → RangeDelivered s c) s c _
+delivers-range s c answer effects n h =
+    let given = grant answer effects in
+    let checked = rule-checked given refl s c h createPd (rw n) in
+    granted-so (λ (verdict : Verdict). verdict ≡ given → RangeDelivered s c) s c _
     (λ reply never. let z : _≡_ {A = ℕ} 0 1 = cc in absurd (omega arith))
     (λ granted same.
     granted-delivers s c (sound-facts s (checked .0)) (checked .1) granted refl refl (granted .parameters) (ltb-true (nextDomain s) domains (granted .domain))
-    (after-granted answer effects block s c h ∙ ap (λ (verdict : Verdict). run (effectsOf verdict) s) (sym same)))
-    (rule-grants answer effects block s c h createPd (rw n))
+    (after-verdict s c given h ∙ ap (λ (verdict : Verdict). run (effectsOf verdict) s) (sym same)))
+    (rule-grants given refl s c h createPd (rw n))

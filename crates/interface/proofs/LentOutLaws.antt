@@ -181,7 +181,7 @@ module _ (h : History) (valid : Valid h) (sound : Sound (told h)) where
     is-rule = rw (revokes .is-revoke)
 
     -- the call is granted, with one step
-    granted : rules (told h) c ≡ grant 0 (cut wholeMask place 1 false ∷ []) (c .target)
+    granted : rules (told h) c ≡ grant 0 (cut wholeMask place 1 false ∷ [])
     unfolding rules called revoke
     granted =
         rw (

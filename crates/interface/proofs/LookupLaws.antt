@@ -120,11 +120,12 @@ found-nothing s domain (Good range) m =
 -- LOOKUP answers what is found
 pub nothing-is-nothing : NothingIsNothing
 unfolding hypercall lookup found around
-nothing-is-nothing s c answer effects block n h =
+nothing-is-nothing s c answer effects n h =
     let domain = callerDomain s c in
     let read = reading (c .first) in
-    let by-rule = rule-grants answer effects block s c h lookup (rw n) in
-    let granted = required answer effects block (not (malformed read)) BadPar (grant (found s domain read) [] (c .target)) by-rule in
+    let given = grant answer effects in
+    let by-rule = rule-grants given refl s c h lookup (rw n) in
+    let granted = required given refl (not (malformed read)) BadPar (grant (found s domain read) []) by-rule in
     let is : answer ≡ found s domain read = cc (granted .1) in (
       rw is (found-nothing s domain read (not-true (malformed read) (granted .0))),
       (λ range e f.

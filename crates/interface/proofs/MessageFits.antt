@@ -24,7 +24,7 @@ use Rattle.interface.specs.Boot.{hypervisor, root}
 use Rattle.interface.specs.Damage.{hasPd, isEc}
 use Rattle.interface.specs.Descriptors.{reading, matched}
 use Rattle.interface.specs.Effects.{run}
-use Rattle.interface.specs.Verdicts.{Call, Verdict, refuse, grant, effectsOf, callerDomain}
+use Rattle.interface.specs.Verdicts.{Call, Verdict, refuse, deliver, effectsOf, callerDomain}
 use Rattle.interface.specs.Message.{translateWindow, delegateWindow, typedCount, descriptorAt, secondAt, delegateBit, hotspotField, Item, sourceDomain, smallerOrder, raisedBase, delegateItem, translateItem, itemOf, carried, transfer, hypervisorBit}
 use Rattle.interface.specs.PortalCalls.{portalCall}
 use Rattle.interface.proofs.BoolLaws.{either-way}
@@ -150,7 +150,7 @@ carried-fits s sender receiver source target f l h (suc i) =
 pub call-so : (P : Verdict → Type 0) (s : State) (c : Call) → ((reply : Reply) → P (refuse reply)) →
     let portal = objectPlace (callerDomain s c) (c .first) in
     let moved = transfer s (callerDomain s c) (s .objects (s .objects (objectIn s portal) ecWord) domainWord) (c .source) (c .target) in
-    (permitted s portal PT callBit ≡ true → P (grant (moved .filled) (moved .effects) (moved .block))) → P (portalCall s c)
+    (permitted s portal PT callBit ≡ true → P (deliver (moved .filled) (moved .effects) (moved .block))) → P (portalCall s c)
 unfolding portalCall
 call-so P s c refused f = search (require-so P, refused, f) depth 20
 

@@ -30,14 +30,14 @@ use Rattle.interface.specs.Refusals.{namedPlace, semaphoreCount, CountBe
 use Rattle.interface.proofs.BoolLaws.{cases, either-way}
 use Rattle.interface.proofs.PutLaws.{put-same, put-other}
 use Rattle.interface.proofs.Soundness.{sound-facts}
-use Rattle.interface.proofs.VerdictLaws.{after-granted}
+use Rattle.interface.proofs.VerdictLaws.{after-verdict}
 use Rattle.interface.proofs.ChecksInTurn.{Decides, decides-at-most, decides-below, decides-some, decides-inside, decides-contrary, Refusal, success-no-refusal, Check, checked, inTurn, Cause, Passed, neither-reply, caused-exactly, each-passed, each-passes, status-among, verdictInTurn, last-stands}
 use Rattle.interface.proofs.RefusalLaws.{by-rule, refused-exactly, granted-exactly, granted-somehow, no-other, decides-holding, passed-grants}
 
 -- SM_CTRL.
 module _ (s : State) (c : Call) (sound : soundState s ≡ true) (e : isEc s (c .caller) ≡ true) (n : c .number ≡ SM-CTRL) where
   abbrev counts : ℕ → Verdict
-  counts value = grant 0 (count (objectIn s (namedPlace s c)) value ∷ []) (c .target)
+  counts value = grant 0 (count (objectIn s (namedPlace s c)) value ∷ [])
 
   beyond : 1 < c .second → replyOf (rules s c) ≡ BadPar
   unfolding hypercall smCtrl
@@ -67,7 +67,7 @@ module _ (s : State) (c : Call) (sound : soundState s ≡ true) (e : isEc s (c .
   count-becomes value granted =
       let number = objectIn s (namedPlace s c) in
       let stored = put (s .objects number) countWord value in
-      let is = after-granted 0 (count number value ∷ []) (c .target) s c granted in
+      let is = after-verdict s c (counts value) granted in
       record {
         count-stored = rw (is, put-same (s .objects) number stored) (put-same (s .objects number) countWord value);
         other-words-stay =
@@ -82,30 +82,30 @@ module _ (s : State) (c : Call) (sound : soundState s ≡ true) (e : isEc s (c .
       }
 
   up-refused : c .second ≡ 0 → (refusal : Reply) → Refusal refusal → (replyOf (rules s c) ≡ refusal) ↔ Cause upChecks refusal
-  up-refused z = refused-exactly s c upChecks 0 _ (c .target) (up-checked z)
+  up-refused z = refused-exactly s c upChecks _ 0 refl (up-checked z)
 
   up-passed : c .second ≡ 0 → (replyOf (rules s c) ≡ Success 0) ↔ Passed upChecks
-  up-passed z = granted-exactly s c upChecks 0 _ (c .target) (up-checked z)
+  up-passed z = granted-exactly s c upChecks _ 0 refl (up-checked z)
 
   up-becomes : c .second ≡ 0 → replyOf (rules s c) ≡ Success 0 → CountBecomes s c (semaphoreCount s c + 1)
-  up-becomes z g = count-becomes (semaphoreCount s c + 1) (passed-grants s c upChecks 0 _ (c .target) (up-checked z) g)
+  up-becomes z g = count-becomes (semaphoreCount s c + 1) (passed-grants s c upChecks _ 0 refl (up-checked z) g)
 
   up-status : c .second ≡ 0 → member (statusOf (replyOf (rules s c))) (0 ∷ 4 ∷ 5 ∷ []) ≡ true
   unfolding member any
-  up-status z = no-other s c upChecks 0 _ (c .target) (up-checked z) (0 ∷ 4 ∷ 5 ∷ []) refl refl
+  up-status z = no-other s c upChecks _ 0 refl (up-checked z) (0 ∷ 4 ∷ 5 ∷ []) refl refl
 
   down-refused : c .second ≡ 1 → (refusal : Reply) → Refusal refusal → (replyOf (rules s c) ≡ refusal) ↔ Cause downChecks refusal
-  down-refused z = refused-exactly s c downChecks 0 _ (c .target) (down-checked z)
+  down-refused z = refused-exactly s c downChecks _ 0 refl (down-checked z)
 
   down-passed : c .second ≡ 1 → (replyOf (rules s c) ≡ Success 0) ↔ Passed downChecks
-  down-passed z = granted-exactly s c downChecks 0 _ (c .target) (down-checked z)
+  down-passed z = granted-exactly s c downChecks _ 0 refl (down-checked z)
 
   down-becomes : c .second ≡ 1 → replyOf (rules s c) ≡ Success 0 → CountBecomes s c (semaphoreCount s c - 1)
-  down-becomes z g = count-becomes (semaphoreCount s c - 1) (passed-grants s c downChecks 0 _ (c .target) (down-checked z) g)
+  down-becomes z g = count-becomes (semaphoreCount s c - 1) (passed-grants s c downChecks _ 0 refl (down-checked z) g)
 
   down-status : c .second ≡ 1 → member (statusOf (replyOf (rules s c))) (0 ∷ 1 ∷ 4 ∷ []) ≡ true
   unfolding member any
-  down-status z = no-other s c downChecks 0 _ (c .target) (down-checked z) (0 ∷ 1 ∷ 4 ∷ []) refl refl
+  down-status z = no-other s c downChecks _ 0 refl (down-checked z) (0 ∷ 1 ∷ 4 ∷ []) refl refl
 
 pub sm-ctrl-refused-exactly : SmCtrlRefusedExactly
 sm-ctrl-refused-exactly =
@@ -137,43 +137,43 @@ module _ (s : State) (c : Call) (sound : soundState s ≡ true) (e : isEc s (c .
   lookupChecks = checked (decides-malformed (reading (c .first))) BadPar refl ∷ []
 
   module _ (n : c .number ≡ LOOKUP) where
-    lookup-checked : rules s c ≡ verdictInTurn lookupChecks (grant (found s (callerDomain s c) (reading (c .first))) [] (c .target))
+    lookup-checked : rules s c ≡ verdictInTurn lookupChecks (grant (found s (callerDomain s c) (reading (c .first))) [])
     unfolding hypercall lookup
     lookup-checked = by-rule s c LOOKUP lookup refl sound e n
 
     lookup-refused : (refusal : Reply) → Refusal refusal → (replyOf (rules s c) ≡ refusal) ↔ Cause lookupChecks refusal
-    lookup-refused = refused-exactly s c lookupChecks _ [] (c .target) lookup-checked
+    lookup-refused = refused-exactly s c lookupChecks _ _ refl lookup-checked
 
-    lookup-passed : ((answer : ℕ) × (rules s c ≡ grant answer [] (c .target))) ↔ Passed lookupChecks
+    lookup-passed : ((answer : ℕ) × (rules s c ≡ grant answer [])) ↔ Passed lookupChecks
     lookup-passed = (
-      λ (answer, g). granted-somehow s c lookupChecks _ [] (c .target) lookup-checked .0 (answer, ap replyOf g),
+      λ (answer, g). granted-somehow s c lookupChecks _ _ refl lookup-checked .0 (answer, ap replyOf g),
       λ f. (_, lookup-checked ∙ last-stands lookupChecks _ f),
     )
 
     lookup-status : member (statusOf (replyOf (rules s c))) (0 ∷ 5 ∷ []) ≡ true
     unfolding member any
-    lookup-status = no-other s c lookupChecks _ [] (c .target) lookup-checked (0 ∷ 5 ∷ []) refl refl
+    lookup-status = no-other s c lookupChecks _ _ refl lookup-checked (0 ∷ 5 ∷ []) refl refl
 
   abbrev revokeChecks : List Check
   revokeChecks = checked (decides-at-most (c .second) 1) BadPar refl ∷ checked (decides-malformed (reading (c .first))) BadPar refl ∷ []
 
   module _ (n : c .number ≡ REVOKE) where
-    revoke-checked : rules s c ≡ verdictInTurn revokeChecks (grant 0 (cuts (callerDomain s c) (eqb (c .second) 1) (reading (c .first))) (c .target))
+    revoke-checked : rules s c ≡ verdictInTurn revokeChecks (grant 0 (cuts (callerDomain s c) (eqb (c .second) 1) (reading (c .first))))
     unfolding hypercall revoke
     revoke-checked = by-rule s c REVOKE revoke refl sound e n
 
     revoke-refused : (refusal : Reply) → Refusal refusal → (replyOf (rules s c) ≡ refusal) ↔ Cause revokeChecks refusal
-    revoke-refused = refused-exactly s c revokeChecks 0 _ (c .target) revoke-checked
+    revoke-refused = refused-exactly s c revokeChecks _ 0 refl revoke-checked
 
-    revoke-passed : ((effects : List Effect) × (rules s c ≡ grant 0 effects (c .target))) ↔ Passed revokeChecks
+    revoke-passed : ((effects : List Effect) × (rules s c ≡ grant 0 effects)) ↔ Passed revokeChecks
     revoke-passed = (
-      λ (effects, g). granted-exactly s c revokeChecks 0 _ (c .target) revoke-checked .0 (ap replyOf g),
+      λ (effects, g). granted-exactly s c revokeChecks _ 0 refl revoke-checked .0 (ap replyOf g),
       λ f. (_, revoke-checked ∙ last-stands revokeChecks _ f),
     )
 
     revoke-status : member (statusOf (replyOf (rules s c))) (0 ∷ 5 ∷ []) ≡ true
     unfolding member any
-    revoke-status = no-other s c revokeChecks 0 _ (c .target) revoke-checked (0 ∷ 5 ∷ []) refl refl
+    revoke-status = no-other s c revokeChecks _ 0 refl revoke-checked (0 ∷ 5 ∷ []) refl refl
 
 pub lookup-refused-exactly : LookupRefusedExactly
 lookup-refused-exactly =

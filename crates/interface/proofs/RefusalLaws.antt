@@ -16,8 +16,7 @@ use Rattle.descriptor.specs.declared.Reply.the-variants.{Success, ComTim, BadCa
 use Rattle.interface.specs.Basics.{any, member}
 use Rattle.interface.specs.Places.{State, PT, domainWord, cpuWord, callBit, kindOf, objectPlace, permitted, objectIn}
 use Rattle.interface.specs.Damage.{soundState, isEc}
-use Rattle.interface.specs.Effects.{Effect}
-use Rattle.interface.specs.Verdicts.{Call, CALL, callerDomain, Verdict, grant, replyOf}
+use Rattle.interface.specs.Verdicts.{Call, CALL, callerDomain, Verdict, deliver, replyOf}
 use Rattle.interface.specs.Message.{payloadWords, payloadFits, Moved, transfer}
 use Rattle.interface.specs.PortalCalls.{portalCall}
 use Rattle.interface.specs.Rules.{rule, hypercall, called, rules}
@@ -35,11 +34,11 @@ by-rule s c number verdict e sound ec n =
     let is-rule : hypercall (c .number) ≡ rule verdict = ap hypercall n ∙ e in
     rw (sound, is-rule, ec)
 
--- a call's verdict that is its checks' in turn, and then a grant
-module _ (s : State) (c : Call) (checks : List Check) (answer : ℕ) (effects : List Effect) (block : List ℕ)
-    (is : rules s c ≡ verdictInTurn checks (grant answer effects block)) where
+-- a call's verdict that is its checks' in turn, and then one that succeeds
+module _ (s : State) (c : Call) (checks : List Check) (last : Verdict) (answer : ℕ) (succeeds : replyOf last ≡ Success answer)
+    (is : rules s c ≡ verdictInTurn checks last) where
   reply-is : replyOf (rules s c) ≡ inTurn checks (Success answer)
-  reply-is = ap replyOf is ∙ reply-in-turn checks (grant answer effects block)
+  reply-is = ap replyOf is ∙ reply-in-turn checks last ∙ ap (inTurn checks) succeeds
 
   -- it refuses exactly where the refusal has a cause
   pub refused-exactly : (refusal : Reply) → Refusal refusal → (replyOf (rules s c) ≡ refusal) ↔ Cause checks refusal
@@ -62,9 +61,9 @@ module _ (s : State) (c : Call) (checks : List Check) (answer : ℕ) (effects : 
     λ f. (answer, granted-exactly .1 f),
   )
 
-  -- and then with these steps and this block
-  pub passed-grants : replyOf (rules s c) ≡ Success answer → rules s c ≡ grant answer effects block
-  passed-grants e = is ∙ last-stands checks (grant answer effects block) (granted-exactly .0 e)
+  -- and then by this verdict
+  pub passed-grants : replyOf (rules s c) ≡ Success answer → rules s c ≡ last
+  passed-grants e = is ∙ last-stands checks last (granted-exactly .0 e)
 
   -- its status is a check's, or SUCCESS
   pub no-other : (statuses : List ℕ) → member 0 statuses ≡ true → allAmong statuses checks ≡ true → member (statusOf (replyOf (rules s c))) statuses ≡ true
@@ -116,20 +115,23 @@ module _ (s : State) (c : Call) (sound : soundState s ≡ true) (e : isEc s (c .
   callMoved : Moved
   callMoved = transfer s (callerDomain s c) (s .objects (calleeOf s c) domainWord) (c .source) (c .target)
 
+  abbrev callLast : Verdict
+  callLast = deliver (callMoved .filled) (callMoved .effects) (callMoved .block)
+
   module _ (n : c .number ≡ CALL) where
-    call-checked : rules s c ≡ verdictInTurn callChecks (grant (callMoved .filled) (callMoved .effects) (callMoved .block))
+    call-checked : rules s c ≡ verdictInTurn callChecks callLast
     unfolding hypercall portalCall payloadFits callMoved
     call-checked = by-rule s c CALL portalCall refl sound e n
 
     call-refused : (refusal : Reply) → Refusal refusal → (replyOf (rules s c) ≡ refusal) ↔ Cause callChecks refusal
-    call-refused = refused-exactly s c callChecks (callMoved .filled) (callMoved .effects) (callMoved .block) call-checked
+    call-refused = refused-exactly s c callChecks callLast (callMoved .filled) refl call-checked
 
     call-passed : ((given : ℕ) × (replyOf (rules s c) ≡ Success given)) ↔ Passed callChecks
-    call-passed = granted-somehow s c callChecks (callMoved .filled) (callMoved .effects) (callMoved .block) call-checked
+    call-passed = granted-somehow s c callChecks callLast (callMoved .filled) refl call-checked
 
     call-status : member (statusOf (replyOf (rules s c))) (0 ∷ 1 ∷ 4 ∷ 5 ∷ 7 ∷ []) ≡ true
     unfolding member any
-    call-status = no-other s c callChecks (callMoved .filled) (callMoved .effects) (callMoved .block) call-checked (0 ∷ 1 ∷ 4 ∷ 5 ∷ 7 ∷ []) refl refl
+    call-status = no-other s c callChecks callLast (callMoved .filled) refl call-checked (0 ∷ 1 ∷ 4 ∷ 5 ∷ 7 ∷ []) refl refl
 
 pub call-refused-exactly : CallRefusedExactly
 call-refused-exactly =

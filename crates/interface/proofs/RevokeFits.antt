@@ -37,11 +37,11 @@ cuts-fit s domain self (Good range) h =
 
 -- what holds of every refusal, and of the steps of the descriptor's revocation, holds of REVOKE
 pub revoke-so : (P : Verdict → Type 0) (s : State) (c : Call) → ((reply : Reply) → P (refuse reply)) →
-    P (grant 0 (cuts (callerDomain s c) (eqb (c .second) 1) (reading (c .first))) (c .target)) → P (revoke s c)
+    P (grant 0 (cuts (callerDomain s c) (eqb (c .second) 1) (reading (c .first)))) → P (revoke s c)
 unfolding revoke
 revoke-so P s c refused f =
     let read = reading (c .first) in
-    let granted = grant 0 (cuts (callerDomain s c) (eqb (c .second) 1) read) (c .target) in
+    let granted = grant 0 (cuts (callerDomain s c) (eqb (c .second) 1) read) in
     require-so P (leb (c .second) 1) BadPar (require not (malformed read) else BadPar then granted) (refused BadPar)
     (λ _. require-so P (not (malformed read)) BadPar granted (refused BadPar) (λ _. f))
 

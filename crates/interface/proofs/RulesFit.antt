@@ -31,7 +31,7 @@ use Rattle.interface.proofs.MessageFits.{call-fits}
 lookup-fits : (s : State) (c : Call) → FitInTurn (effectsOf (lookup s c)) s
 unfolding lookup
 lookup-fits s c =
-    require-fits s (not (malformed (reading (c .first)))) BadPar (grant (found s (callerDomain s c) (reading (c .first))) [] (c .target)) (λ _. tt)
+    require-fits s (not (malformed (reading (c .first)))) BadPar (grant (found s (callerDomain s c) (reading (c .first))) []) (λ _. tt)
 
 -- one number's rule, of which something holds where the caller is an EC, and what the other numbers stand for
 pub or-else : (P : Verdict → Type 0) (s : State) (c : Call) → ((reply : Reply) → P (refuse reply)) → (number : ℕ) (verdict : State → Call → Verdict) (others : Built) →

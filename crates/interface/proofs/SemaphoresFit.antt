@@ -18,7 +18,7 @@ use Rattle.interface.proofs.SoundFacts.{own-record, permitted-kind}
 -- what holds of every refusal, and of a step that stores a count once the semaphore is permitted, holds of SM_CTRL
 pub semaphore-so : (P : Verdict → Type 0) (s : State) (c : Call) → ((reply : Reply) → P (refuse reply)) →
     let place = objectPlace (callerDomain s c) (c .first) in
-    (permitted s place SM (c .second) ≡ true → (value : ℕ) → P (grant 0 (count (objectIn s place) value ∷ []) (c .target))) → P (smCtrl s c)
+    (permitted s place SM (c .second) ≡ true → (value : ℕ) → P (grant 0 (count (objectIn s place) value ∷ []))) → P (smCtrl s c)
 unfolding smCtrl
 semaphore-so P s c refused f = search (require-so P, either-way P, refused, f) depth 20
 

@@ -1,27 +1,30 @@
 -- Laws of verdicts: what a call that is granted tells of the checks of its rule and of the state after it.
-use Prim.Native.Nat.{ℕ}
 use mathlib.Core.Path.{_≡_, refl, sym, ap, _∙_}
-use mathlib.Core.Bool.{Bool, true, false}
-use mathlib.Core.List.{List}
-use native.Mathlib.Omega.{arith}
+use mathlib.Core.Bool.{Bool, true, false, true≢false}
 use Rattle.descriptor.specs.declared.Reply.{Reply}
 use Rattle.descriptor.specs.declared.Reply.the-variants.{Damaged, BadCaller}
 use Rattle.interface.specs.Places.{State}
 use Rattle.interface.specs.Damage.{soundState, isEc}
-use Rattle.interface.specs.Effects.{Effect, run}
-use Rattle.interface.specs.Verdicts.{Call, Verdict, grant, require_else_then_}
+use Rattle.interface.specs.Effects.{run}
+use Rattle.interface.specs.Verdicts.{Call, Verdict, refuse, grant, deliver, require_else_then_, effectsOf}
 use Rattle.interface.specs.Rules.{rule, hypercall, called, rules, after}
 
-module _ (answer : ℕ) (effects : List Effect) (block : List ℕ) where
-  -- a check of a rule that grants was passed, and what follows the check grants the same
-  pub required : (test : Bool) (reply : Reply) (next : Verdict) → (require test else reply then next) ≡ grant answer effects block →
-      (test ≡ true) × (next ≡ grant answer effects block)
-  required true reply next h = (refl, h)
-  required false reply next h = let z : _≡_ {A = ℕ} 0 1 = cc in absurd (omega arith)
+-- whether a verdict refuses the call
+abbrev pub refuses : Verdict → Bool
+refuses (refuse reply) = true
+refuses (grant answer effects) = false
+refuses (deliver answer effects block) = false
 
-  module _ (s : State) (c : Call) (granted : rules s c ≡ grant answer effects block) where
+-- the verdict of a call that is granted, a message's or another's
+module _ (given : Verdict) (is-granted : refuses given ≡ false) where
+  -- a check of a rule that comes to it was passed, and what follows the check comes to it
+  pub required : (test : Bool) (reply : Reply) (next : Verdict) → (require test else reply then next) ≡ given → (test ≡ true) × (next ≡ given)
+  required true reply next h = (refl, h)
+  required false reply next h = absurd (true≢false (ap refuses h ∙ is-granted))
+
+  module _ (s : State) (c : Call) (granted : rules s c ≡ given) where
     -- a granted call is granted by the rule of its number
-    pub rule-grants : (verdict : State → Call → Verdict) → hypercall (c .number) ≡ rule verdict → verdict s c ≡ grant answer effects block
+    pub rule-grants : (verdict : State → Call → Verdict) → hypercall (c .number) ≡ rule verdict → verdict s c ≡ given
     unfolding rules called
     rule-grants verdict e =
         required (isEc s (c .caller)) BadCaller (verdict s c)
@@ -34,7 +37,7 @@ module _ (answer : ℕ) (effects : List Effect) (block : List ℕ) where
         let on-sound = required (soundState s) Damaged (called s c (hypercall (c .number))) granted in
         (on-sound .0, required (isEc s (c .caller)) BadCaller (verdict s c) (ap (called s c) (sym e) ∙ on-sound .1) .0)
 
-    -- a granted call takes the steps of its verdict
-    pub after-granted : after s c ≡ run effects s
-    unfolding after
-    after-granted = rw granted
+-- a call takes the steps of its verdict
+pub after-verdict : (s : State) (c : Call) (given : Verdict) → rules s c ≡ given → after s c ≡ run (effectsOf given) s
+unfolding after
+after-verdict s c given e = rw e

@@ -54,7 +54,7 @@ creation s c new =
     require new .cpu-good else BadCpu then
     require new .parameters-good else BadPar then
     require ltb (freeRecord s) records && new .domain-left else NoRoom then
-    grant 0 (make (freeRecord s) (new .words) ∷ new .delegations ++ (hold (newPlace s c) (freeRecord s) ∷ [])) (c .target)
+    grant 0 (make (freeRecord s) (new .words) ∷ new .delegations ++ (hold (newPlace s c) (freeRecord s) ∷ []))
 
 -- delegating each place of a range of object selectors to the same selectors of another domain
 abbrev pub handOn : ℕ → ℕ → ℕ → ℕ → ℕ → List Effect

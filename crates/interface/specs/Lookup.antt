@@ -50,4 +50,4 @@ found s domain (Good range) =
 unfoldable pub lookup : State → Call → Verdict
 lookup s c =
     require not (malformed (reading (c .first))) else BadPar then
-    grant (found s (callerDomain s c) (reading (c .first))) [] (c .target)
+    grant (found s (callerDomain s c) (reading (c .first))) []

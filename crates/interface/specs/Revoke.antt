@@ -23,4 +23,4 @@ unfoldable pub revoke : State → Call → Verdict
 revoke s c =
     require leb (c .second) 1 else BadPar then
     require not (malformed (reading (c .first))) else BadPar then
-    grant 0 (cuts (callerDomain s c) (eqb (c .second) 1) (reading (c .first))) (c .target)
+    grant 0 (cuts (callerDomain s c) (eqb (c .second) 1) (reading (c .first)))

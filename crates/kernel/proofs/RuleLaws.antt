@@ -134,7 +134,7 @@ pub record Stays (block : List ℕ) (verdict : Verdict) : Type 0 where
 stays-refused : (block : List ℕ) (reply : Reply) → Stays block (refuse reply)
 stays-refused block reply = record { stays = refl }
 
-stays-granted : (block : List ℕ) (answer : ℕ) (effects : List Effect) → Stays block (grant answer effects block)
+stays-granted : (block : List ℕ) (answer : ℕ) (effects : List Effect) → Stays block (grant answer effects)
 stays-granted block answer effects = record { stays = refl }
 
 stays-choice : (block : List ℕ) (test : Bool) (x y : Verdict) → Stays block x → Stays block y → Stays block (if test then x else y)
