@@ -13,11 +13,11 @@ use Rattle.words.specs.Sizes.{places, placeWords, records, recordWords}
 use Rattle.descriptor.specs.Replies.{statusOf}
 use Rattle.descriptor.specs.declared.Reply.{Reply}
 use Rattle.descriptor.specs.declared.Reply.the-variants.{Success, BadHyp, Damaged, BadCaller}
-use Rattle.interface.specs.Basics.{if_then_else_, word, put, listed}
-use Rattle.interface.specs.Places.{Cap, State, Tables, parentless, countWord, kindOf, greatestOf, placeTableWords, objectTableWords, sized, capAt, objectAt, shown, capWords, placeTable, objectTable, tablesOf}
+use Rattle.interface.specs.Basics.{if_then_else_, word, put, putFrom, listed}
+use Rattle.interface.specs.Places.{Cap, State, Tables, parentless, kindOf, greatestOf, placeTableWords, objectTableWords, sized, capAt, objectAt, shown, capWords, placeTable, objectTable, tablesOf}
 use Rattle.interface.specs.Boot.{boot}
 use Rattle.interface.specs.Damage.{isEc, soundState, sound}
-use Rattle.interface.specs.Effects.{Effect, give, make, hold, cut, count, fills, handed, act, run}
+use Rattle.interface.specs.Effects.{Effect, give, make, hold, cut, store, fills, handed, act, run}
 use Rattle.interface.specs.Verdicts.{Call, CALL, CREATE-PD, CREATE-EC, CREATE-SC, CREATE-PT, CREATE-SM, REVOKE, LOOKUP, SM-CTRL, Verdict, refuse, grant, deliver, require_else_then_, replyOf, effectsOf, blockOf}
 use Rattle.interface.specs.Creations.{Creation, creation, createPd, createEc, createSc, createPt, createSm}
 use Rattle.interface.specs.Revoke.{revoke}
@@ -30,7 +30,7 @@ use Rattle.interface.specs.History.{Event, hypercalls, counts}
 use Rattle.interface.specs.Demand.{tablesAfter, tablesAfterAll}
 use Rattle.interface.specs.Consequences.{StaysSound, DamagedExactly, RefusedStays, BlocksStay}
 use Rattle.interface.proofs.BoolLaws.{cases, and-left, and-right, both, one-choice, either-way}
-use Rattle.interface.proofs.PutLaws.{put-other, put-keeps}
+use Rattle.interface.proofs.PutLaws.{put-other, put-keeps, put-from-past}
 use Rattle.interface.proofs.Soundness.{sound-facts, facts-sound}
 use Rattle.interface.proofs.Steps.{Fits, FitInTurn}
 use Rattle.interface.proofs.RulesFit.{or-else, rules-fit}
@@ -149,9 +149,9 @@ step-ends (cut mask first size self) s fit ends =
       records-end = ends .records-end;
       words-end = ends .words-end;
     }
-step-ends (count number value) s fit ends =
-    record-ends number (put (s .objects number) countWord value) s (fit .is-record)
-    (λ i g. put-other (s .objects number) countWord value i (λ e. omega arith) ∙ ends .words-end number i g) ends
+step-ends (store number from words) s fit ends =
+    record-ends number (putFrom (s .objects number) from words) s (fit .is-record)
+    (λ i g. put-from-past (s .objects number) from words i (omega (arith, fit .ends-inside)) ∙ ends .words-end number i g) ends
 
 pub run-ends : (effects : List Effect) (s : State) → FitInTurn effects s → Ends s → Ends (run effects s)
 unfolding run

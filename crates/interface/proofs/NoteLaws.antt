@@ -10,15 +10,15 @@ use borrow.Author.Tests.{eqb-true, eqb-false, ltb-true, ltb-false, lt-ltb, not-t
 use Rattle.words.specs.Sizes.{records, recordWords, greatestDepth}
 use Rattle.words.specs.Permissions.{delegated}
 use Rattle.words.proofs.BitLaws.{delegated-within-source}
-use Rattle.interface.specs.Basics.{word, put}
-use Rattle.interface.specs.Places.{Cap, State, live, parentless, free, SM, countWord, kindOf, greatestOf}
-use Rattle.interface.specs.Effects.{give, make, hold, cut, count, fills, handed, act}
+use Rattle.interface.specs.Basics.{word, put, putFrom}
+use Rattle.interface.specs.Places.{Cap, State, live, parentless, free, SM, kindOf, greatestOf}
+use Rattle.interface.specs.Effects.{give, make, hold, cut, store, fills, handed, act}
 use Rattle.interface.specs.History.{Filling, History, held, placeLink, heldCap, told, added, note}
 use Rattle.interface.proofs.BoolLaws.{cases, and-left, and-right}
-use Rattle.interface.proofs.PutLaws.{put-same, put-other}
+use Rattle.interface.proofs.PutLaws.{put-same, put-other, put-from-past}
 use Rattle.interface.proofs.Soundness.{Sound}
 use Rattle.interface.proofs.PlaceFacts.{kind-small}
-use Rattle.interface.proofs.Steps.{GiveFits, MakeFits, HoldFits, CountFits}
+use Rattle.interface.proofs.Steps.{GiveFits, MakeFits, HoldFits, StoreFits}
 use Rattle.interface.proofs.HistoryLaws.{Valid, held-bound, held-is}
 use Rattle.interface.proofs.AddedLaws.{depthFrom, Addable, newCap, told-added, valid-added}
 use Rattle.interface.proofs.CutLaws.{told-cut, valid-cut, positive}
@@ -200,16 +200,16 @@ module _ (h : History) (valid : Valid h) where
         (λ r i l. put-ends number (word words) r i (List·getD-eq-default words 0 (omega (arith, fit .short))) l),
   )
 
-  pub count-follows : (number value : ℕ) → CountFits (told h) number → Follows (note (count number value) h) (act (count number value) (told h))
+  pub store-follows : (number from : ℕ) (words : List ℕ) → StoreFits (told h) number from words →
+      Follows (note (store number from words) h) (act (store number from words) (told h))
   unfolding note act held
-  count-follows number value fit =
-      let row = put (h .objects number) countWord value in (
+  store-follows number from words fit =
+      let row = putFrom (h .objects number) from words in (
         refl,
         objects-valid (put (h .objects) number row)
             (λ r i l. rw (put-other (h .objects) number row r (λ e. omega (arith, fit .is-record))) (valid .records-end r i l))
             (λ r i l.
-            put-ends number row r i
-            (rw (put-other (h .objects number) countWord value i (λ e. omega arith)) (valid .words-end number i l)) l),
+            put-ends number row r i (put-from-past (h .objects number) from words i (omega (arith, fit .ends-inside)) ∙ valid .words-end number i l) l),
       )
 
   pub cut-follows : (mask first size : ℕ) (self : Bool) → Follows (note (cut mask first size self) h) (act (cut mask first size self) (told h))

@@ -15,7 +15,7 @@ use Rattle.descriptor.specs.declared.Reading.{Reading}
 use Rattle.descriptor.specs.declared.Reading.the-variants.{Null, Malformed, Good}
 use Rattle.descriptor.specs.declared.Reply.{Reply}
 use Rattle.descriptor.specs.declared.Reply.the-variants.{Success, ComTim, BadCap, BadPar, NoRoom, Short}
-use Rattle.interface.specs.Basics.{if_then_else_, put, any, member}
+use Rattle.interface.specs.Basics.{if_then_else_, put, putFrom, any, member}
 use Rattle.interface.specs.Places.{State, Tables, live, shown, SM, countWord, objectIn}
 use Rattle.interface.specs.Damage.{soundState, sound, isEc}
 use Rattle.interface.specs.Descriptors.{reading, malformed}
@@ -63,7 +63,7 @@ module _ (s : State) (c : Call) (sound : soundState s ≡ true) (e : isEc s (c .
 
   -- a step that stores a count
   count-becomes : (value : ℕ) → rules s c ≡ counts value → CountBecomes s c value
-  unfolding run act
+  unfolding run act putFrom
   count-becomes value granted =
       let number = objectIn s (namedPlace s c) in
       let stored = put (s .objects number) countWord value in

@@ -2,15 +2,15 @@
 use mathlib.Core.Path.{refl, sym, ap, _∙_, subst}
 use mathlib.Core.List.{List, [], _∷_}
 use Rattle.interface.specs.Places.{State}
-use Rattle.interface.specs.Effects.{Effect, give, make, hold, cut, count, act, run}
+use Rattle.interface.specs.Effects.{Effect, give, make, hold, cut, store, act, run}
 use Rattle.interface.specs.History.{History, told, note, noteAll}
 use Rattle.interface.proofs.Soundness.{Sound}
 use Rattle.interface.proofs.Steps.{Fits, FitInTurn}
 use Rattle.interface.proofs.SoundPlaces.{give-sound, hold-sound}
 use Rattle.interface.proofs.CutSound.{cut-sound}
-use Rattle.interface.proofs.SoundObjects.{make-sound, count-sound}
+use Rattle.interface.proofs.SoundObjects.{make-sound, store-sound}
 use Rattle.interface.proofs.HistoryLaws.{Valid}
-use Rattle.interface.proofs.NoteLaws.{Follows, give-follows, hold-follows, make-follows, count-follows, cut-follows}
+use Rattle.interface.proofs.NoteLaws.{Follows, give-follows, hold-follows, make-follows, store-follows, cut-follows}
 
 -- a step that fits leaves a sound state sound
 pub step-sound : (effect : Effect) (s : State) → Sound s → Fits effect s → Sound (act effect s)
@@ -18,7 +18,7 @@ step-sound (give destination source mask) s sound fit = give-sound s destination
 step-sound (make number words) s sound fit = make-sound s number words sound fit
 step-sound (hold place number) s sound fit = hold-sound s place number sound fit
 step-sound (cut mask first size self) s sound fit = cut-sound s mask first size self sound fit
-step-sound (count number value) s sound fit = count-sound s number value sound fit
+step-sound (store number from words) s sound fit = store-sound s number from words sound fit
 
 pub run-sound : (effects : List Effect) (s : State) → Sound s → FitInTurn effects s → Sound (run effects s)
 unfolding run
@@ -31,7 +31,7 @@ note-follows (give destination source mask) h valid sound fit = give-follows h v
 note-follows (make number words) h valid sound fit = make-follows h valid number words fit
 note-follows (hold place number) h valid sound fit = hold-follows h valid place number sound fit
 note-follows (cut mask first size self) h valid sound fit = cut-follows h valid mask first size self
-note-follows (count number value) h valid sound fit = count-follows h valid number value fit
+note-follows (store number from words) h valid sound fit = store-follows h valid number from words fit
 
 pub notes-follow : (effects : List Effect) (h : History) → Valid h → Sound (told h) → FitInTurn effects (told h) → Follows (noteAll effects h) (run effects (told h))
 unfolding run noteAll

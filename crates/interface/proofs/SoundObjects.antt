@@ -1,4 +1,4 @@
--- A sound state stays sound when a new object is stored in the lowest free record, and when a semaphore's count is stored.
+-- A sound state stays sound when a new object is stored in the lowest free record, and when words are stored in a used one.
 use Prim.Native.Nat.{ℕ, zero, suc, _+_, _-_, _≤_, _<_}
 use mathlib.Core.Path.{_≡_, refl, sym, ap, _∙_}
 use mathlib.Core.Logic.{⊎-elim}
@@ -8,17 +8,17 @@ use native.Mathlib.Omega.{arith}
 use lib.Dec.{eqb, leb, ltb}
 use borrow.Author.Tests.{ltb-true, ltb-false, leb-true, leb-false, eqb-true, eqb-false, ne-eqb, le-leb, not-true}
 use Rattle.words.specs.Sizes.{records, recordWords}
-use Rattle.interface.specs.Basics.{if_then_else_, word, put, allBelow}
-use Rattle.interface.specs.Places.{State, free, SC, SM, kindWord, countWord, namedWords, kindOf}
+use Rattle.interface.specs.Basics.{if_then_else_, word, putFrom, allBelow}
+use Rattle.interface.specs.Places.{State, free, PD, SC, SM, kindWord, kindOf}
 use Rattle.interface.specs.Boot.{boot, bootRecord, cpus, rootPd, rootSc}
-use Rattle.interface.specs.Damage.{recordAsBoot, fixed-record, interrupt-rule, unnamed-rule, used-first, pd-rule, ec-rule, sc-rule, pt-rule, between1}
-use Rattle.interface.specs.Effects.{make, count, act}
+use Rattle.interface.specs.Damage.{recordAsBoot, fixed-record, interrupt-rule, used-first, pd-rule, between1}
+use Rattle.interface.specs.Effects.{make, store, act}
 use Rattle.interface.specs.Creations.{freeRecord}
-use Rattle.interface.proofs.BoolLaws.{cases, not-both, and-left, and-right, both, or-left, or-right, or-second, either, or-none-left, or-none-right, false-not, asked, not-asked}
-use Rattle.interface.proofs.BelowLaws.{all-below-at, all-below, lowest-holds, below-lowest}
-use Rattle.interface.proofs.PutLaws.{put-same, put-other}
+use Rattle.interface.proofs.BoolLaws.{cases, not-both, and-left, and-right, both, or-right, or-second, either, or-none-left, or-none-right, false-not, asked, not-asked}
+use Rattle.interface.proofs.BelowLaws.{all-below-at, lowest-holds, below-lowest}
+use Rattle.interface.proofs.PutLaws.{put-same, put-other, put-from-before}
 use Rattle.interface.proofs.Soundness.{Sound}
-use Rattle.interface.proofs.Steps.{MakeFits, CountFits}
+use Rattle.interface.proofs.Steps.{MakeFits, StoreFits}
 use Rattle.interface.proofs.OneRecord.{KeepsRules, DiffersAt, stays-used, sound-but-one}
 
 -- whether a record is one of those that stay as at boot
@@ -63,6 +63,11 @@ module _ (s : State) (k : Sound s) where
         leb-true 1 (kindOf s r) (and-left (leb 1 (kindOf s r)) (leb (kindOf s r) SC) h),
         leb-true (kindOf s r) SC (and-right (leb 1 (kindOf s r)) (leb (kindOf s r) SC) h),
       )
+
+  -- so a record of a later kind is none of them, and keeps their rule with any words
+  pub never-fixed : (t : State) (r : ℕ) → SC < kindOf s r → fixed-record t r ≡ true
+  unfolding fixed-record
+  never-fixed t r later = not-asked (isFixed r) (recordAsBoot t r) (λ f. omega (arith, later, fixed-range r f))
 
   -- the records of boot are used
   pub boot-used : (r : ℕ) → r ≤ rootSc → kindOf s r ≡ free → ⊥
@@ -165,58 +170,47 @@ module _ (s : State) (number : ℕ) (words : List ℕ) (k : Sound s) (fit : Make
   pub make-sound : Sound (act (make number words) s)
   make-sound = sound-but-one number s (act (make number words) s) differs k made-keeps
 
-module _ (s : State) (number value : ℕ) (k : Sound s) (fit : CountFits s number) where
-  -- a semaphore keeps its words other than the count, and so its kind
-  word-stays : (i : ℕ) → (i ≡ countWord → ⊥) → act (count number value) s .objects number i ≡ s .objects number i
+module _ (s : State) (number from : ℕ) (words : List ℕ) (k : Sound s) (fit : StoreFits s number from words) where
+  -- the record keeps its kind
+  kind-stays : kindOf (act (store number from words) s) number ≡ kindOf s number
   unfolding act
-  word-stays i h =
-      ap (λ (w : ℕ → ℕ). w i) (put-same (s .objects) number (put (s .objects number) countWord value)) ∙
-      put-other (s .objects number) countWord value i h
+  kind-stays =
+      ap (λ (w : ℕ → ℕ). w kindWord) (put-same (s .objects) number (putFrom (s .objects number) from words)) ∙
+      put-from-before (s .objects number) from words kindWord (fit .past-kind)
 
-  stays-sm : kindOf (act (count number value) s) number ≡ SM
-  stays-sm = word-stays kindWord (omega arith) ∙ fit .is-sm
-
-  -- no record but the semaphore's changes
-  counted-differs : DiffersAt number s (act (count number value) s)
+  -- no other record changes
+  stored-differs : DiffersAt number s (act (store number from words) s)
   unfolding act
-  counted-differs =
+  stored-differs =
       record {
         is-record = fit .is-record;
         same-caps = refl;
-        same-words = put-other (s .objects) number (put (s .objects number) countWord value);
-        same-kind = λ r b l u. word-stays kindWord (omega arith);
-        no-pd = λ e. omega (arith, fit .is-sm);
+        same-words = put-other (s .objects) number (putFrom (s .objects number) from words);
+        same-kind = λ r b l u. kind-stays;
+        no-pd = fit .no-pd;
       }
 
-  -- the semaphore keeps the rules
-  counted-keeps : KeepsRules (act (count number value) s) number
-  unfolding fixed-record interrupt-rule unnamed-rule used-first pd-rule ec-rule sc-rule pt-rule
-  counted-keeps =
-      let t = act (count number value) s in
-      let zeros =
-      all-below-at recordWords (λ i. leb i (namedWords SM) || eqb (s .objects number i) 0) (rw (fit .is-sm) at (k .unnameds number (fit .is-record))) in
+  -- the record keeps the rules
+  stored-keeps : KeepsRules (act (store number from words) s) number
+  unfolding interrupt-rule used-first pd-rule
+  stored-keeps =
+      let t = act (store number from words) s in
+      let used : eqb (kindOf s number) free ≡ false = ne-eqb (kindOf s number) free (fit .used) in
       record {
-        keeps-fixed = not-asked (isFixed number) (recordAsBoot t number) (λ f. omega (arith, fit .is-sm, fixed-range s k number f));
-        keeps-interrupt = rw (word-stays kindWord (omega arith)) (k .interrupts number (fit .is-record));
-        keeps-unnamed =
-            rw stays-sm
-            (all-below recordWords (λ i. leb i (namedWords SM) || eqb (t .objects number i) 0)
-            (λ i l.
-            cases (eqb i countWord)
-            (λ (e : eqb i countWord ≡ true).
-            or-left (leb i (namedWords SM)) (eqb (t .objects number i) 0) (le-leb i (namedWords SM) (omega (arith, eqb-true i countWord e))))
-            (λ (e : eqb i countWord ≡ false). rw (word-stays i (eqb-false i countWord e)) (zeros i l))));
+        keeps-fixed = fit .keeps-fixed;
+        keeps-interrupt = rw kind-stays (k .interrupts number (fit .is-record));
+        keeps-unnamed = fit .keeps-unnamed;
         keeps-used-first =
-            rw stays-sm
+            rw (kind-stays, used)
             (or-second (eqb number 0) (not (eqb (kindOf s (number - 1)) free)) (not (eqb (kindOf t (number - 1)) free))
-            (stays-used number s t counted-differs (number - 1) (omega (arith, fit .is-record)))
-            (rw (fit .is-sm) at (k .used-firsts number (fit .is-record))));
-        keeps-pd = rw stays-sm;
-        keeps-ec = rw stays-sm;
-        keeps-sc = rw stays-sm;
-        keeps-pt = rw stays-sm;
+            (stays-used number s t stored-differs (number - 1) (omega (arith, fit .is-record)))
+            (rw used at (k .used-firsts number (fit .is-record))));
+        keeps-pd = rw (kind-stays, ne-eqb (kindOf s number) PD (fit .no-pd));
+        keeps-ec = fit .keeps-ec;
+        keeps-sc = fit .keeps-sc;
+        keeps-pt = fit .keeps-pt;
       }
 
-  -- storing a semaphore's count leaves a sound state sound
-  pub count-sound : Sound (act (count number value) s)
-  count-sound = sound-but-one number s (act (count number value) s) counted-differs k counted-keeps
+  -- storing words that fit leaves a sound state sound
+  pub store-sound : Sound (act (store number from words) s)
+  store-sound = sound-but-one number s (act (store number from words) s) stored-differs k stored-keeps

@@ -11,7 +11,7 @@ use Rattle.words.specs.Fields.{greatestWord}
 use Rattle.words.specs.Sizes.{records}
 use Rattle.descriptor.specs.declared.Reply.{Reply}
 use Rattle.descriptor.specs.declared.Reply.the-variants.{Success, ComTim, BadCap, BadPar}
-use Rattle.interface.specs.Basics.{if_then_else_, put}
+use Rattle.interface.specs.Basics.{if_then_else_, put, putFrom}
 use Rattle.interface.specs.Places.{Cap, SM, domainWord, countWord, objectPlace, permitted, capAt, objectAt, recordTable, tables, view}
 use Rattle.interface.specs.Effects.{count, act, run}
 use Rattle.interface.specs.Verdicts.{Call, Verdict, grant, require_else_then_}
@@ -81,7 +81,7 @@ module _ {places objects : List ℕ} {caller selector operation place number val
     stores : {next : ℕ} {after : List ℕ} → smCtrl (view places objects) c ≡ grant 0 (count number next ∷ []) →
         after ≡ recordTable (put (objectAt objects) number (put (objectAt objects number) countWord next)) →
         Runs smCtrl c (tables places objects) (tables places after) (Success 0)
-    unfolding act run
+    unfolding act run putFrom
     stores granted stored = granted-runs (k .call .called) granted (sym (places-kept (k .call .called))) stored
 
   -- up, where the count is the greatest word, and below
