@@ -16,7 +16,8 @@ use Rattle.interface.proofs.BoolLaws.{cases, and-left, and-right}
 use Rattle.interface.proofs.BelowLaws.{all-below-at}
 use Rattle.interface.proofs.PutLaws.{put-same, put-other}
 use Rattle.interface.proofs.PlaceFacts.{same-cap}
-use Rattle.interface.proofs.NoteLaws.{Follows, state-same, null-held, added-follows}
+use Rattle.interface.proofs.TableLaws.{state-same}
+use Rattle.interface.proofs.NoteLaws.{Follows, null-held, added-follows}
 
 pub boot-sound : soundState boot ≡ true
 unfolding spaceOf allBelow anyBelow countBelow all bootRecord hypervisorCap rootCap bootCap fixed-record fixed-place interrupt-rule unnamed-rule used-first pdsBelow pd-rule hasPd isEc ec-rule sc-rule pt-rule null-place live-place shallow keeps soundState

@@ -17,7 +17,7 @@ use Rattle.interface.specs.Lookup.{uniform, largest, around, found, look
 use Rattle.interface.specs.Message.{payloadFits, sourceDomain, delegateItem, firstIn, nearest, common, translates, translateItem, itemOf, untypedCopied, carried}
 use Rattle.interface.specs.PortalCalls.{portalCall}
 use Rattle.interface.specs.Rules.{hypercall, called, rules, after}
-use Rattle.interface.specs.Journal.{bodyBytes, bodyWord, recordedCall, Line, done, short, unknown, ended, beginning, readBy, contentsFrom, stopLines, replay, width, spelled, spelledLines}
+use Rattle.interface.specs.Journal.{bodyBytes, bodyWord, recordedCall, done, short, unknown, ended, beginning, readBy, contentsFrom, stopLines, replay, width, spelled, spelledLines}
 use Rattle.interface.specs.Examples.{Each, calledExamples, neighbour, messageCap, messageRecord, messageState, blockBefore, blockReceived, exampleMessage, WorkedExamples, MessageExample, exampleJournal, JournalExample, lookupRecord, JournalStops, exampleRange, RangeExample, LayoutExamples}
 use Rattle.interface.proofs.VerdictLaws.{after-verdict}
 use Rattle.interface.proofs.JournalLaws.{stateLines, stateReplay, replay-shown}

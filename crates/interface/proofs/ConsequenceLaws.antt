@@ -1,6 +1,6 @@
 -- What follows from the rules for tables: sound ones stay sound, DAMAGED is answered exactly where they are not, and a refused event changes nothing.
 use Prim.Native.Nat.{ℕ, zero, suc, _+_, _*_, _/_, _%_, _≤_, _<_}
-use mathlib.Core.Path.{_≡_, refl, sym, ap, _∙_, subst}
+use mathlib.Core.Path.{_≡_, refl, sym, ap, _∙_}
 use mathlib.Core.Logic.{_↔_}
 use mathlib.Core.Bool.{Bool, true, false, true≢false}
 use mathlib.Core.List.{List, [], _∷_}
@@ -29,13 +29,13 @@ use Rattle.interface.specs.Census.{CensusResult, counted, censusOf}
 use Rattle.interface.specs.History.{Event, hypercalls, counts}
 use Rattle.interface.specs.Demand.{tablesAfter, tablesAfterAll}
 use Rattle.interface.specs.Consequences.{StaysSound, DamagedExactly, RefusedStays, BlocksStay}
-use Rattle.interface.proofs.BoolLaws.{cases, and-left, and-right, both, one-choice, either-way}
+use Rattle.interface.proofs.BoolLaws.{cases, and-left, and-right, one-choice, either-way}
 use Rattle.interface.proofs.PutLaws.{put-other, put-keeps, put-from-past}
 use Rattle.interface.proofs.Soundness.{sound-facts, facts-sound}
 use Rattle.interface.proofs.Steps.{Fits, FitInTurn}
 use Rattle.interface.proofs.RulesFit.{or-else, rules-fit}
 use Rattle.interface.proofs.CutLaws.{cut-nothing}
-use Rattle.interface.proofs.TableLaws.{length-listed, word-listed, Ends, tables-sized, shown-tables, state-sound}
+use Rattle.interface.proofs.TableLaws.{length-listed, word-listed, Ends, state-sound}
 use Rattle.interface.proofs.BootLaws.{boot-sound, boot-past, boot-records, boot-words}
 use Rattle.interface.proofs.DemandLaws.{after-sound}
 

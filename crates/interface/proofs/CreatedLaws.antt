@@ -6,17 +6,12 @@ use mathlib.Core.List.{List, [], _∷_}
 use native.Mathlib.Omega.{arith}
 use lib.Dec.{ltb}
 use lib.ListN.{length, List·getD-eq-default}
-use borrow.Author.Tests.{ltb-true, lt-ltb, eqb-true, eqb-false, ne-eqb, not-true}
-use Rattle.words.specs.Sizes.{domains, domainOf, object, selectors, placeOf, greatestDepth}
+use borrow.Author.Tests.{ltb-true}
+use Rattle.words.specs.Sizes.{domains, domainOf}
 use Rattle.descriptor.specs.declared.Reply.the-variants.{Success}
 use Rattle.descriptor.proofs.DescriptorLaws.{good-proper}
-use Rattle.interface.specs.Basics.{word, if_then_else_}
-use Rattle.interface.specs.Places.{State, parentless, PD, EC, SC, PT, SM, kindWord, domainWord, cpuWord, eventBaseWord, ecWord, priorityWord, quantumWord, mtdWord, entryWord, identifierWord, countWord, namedWords, greatestOf, kindOf, live}
-use Rattle.words.specs.Permissions.{delegated}
-use Rattle.words.proofs.PlaceLaws.{is-place, domain-back}
-use Rattle.descriptor.specs.declared.Range.{Range}
-use Rattle.descriptor.specs.declared.Reading.the-variants.{Good}
-use Rattle.interface.specs.Boot.{hypervisor}
+use Rattle.interface.specs.Basics.{word}
+use Rattle.interface.specs.Places.{State, parentless, PD, EC, SC, PT, SM, kindWord, domainWord, cpuWord, eventBaseWord, ecWord, priorityWord, quantumWord, mtdWord, entryWord, identifierWord, countWord, namedWords, greatestOf, kindOf}
 use Rattle.interface.specs.Damage.{soundState, hasPd, isEc}
 use Rattle.interface.specs.Descriptors.{reading}
 use Rattle.interface.specs.Effects.{hold, act, run}

@@ -2,7 +2,7 @@
 use Prim.Native.Nat.{ℕ, suc, _+_, _*_, _≤_, _<_}
 use mathlib.Core.Path.{_≡_, refl, sym, ap, _∙_}
 use mathlib.Core.Bool.{true, false, not, _&&_}
-use mathlib.Core.List.{List, [], _∷_, _++_}
+use mathlib.Core.List.{List, [], _∷_}
 use native.Mathlib.Decide.{le-ind}
 use native.Mathlib.Nat.{le-refl, add-zero, add-assoc}
 use native.Mathlib.Omega.{arith}
@@ -26,7 +26,7 @@ use Rattle.interface.specs.Damage.{soundState}
 use Rattle.interface.specs.Descriptors.{reading, matched}
 use Rattle.interface.specs.Effects.{Effect, give, fills, handed, act, run, fillsOne, filled}
 use Rattle.interface.specs.Verdicts.{Call, CALL, deliver, require_else_then_, callerDomain}
-use Rattle.interface.specs.Message.{translateWindow, delegateWindow, delegateBit, payloadFits, descriptorAt, secondAt, Item, Moved, delegateItem, translateItem, sourceDomain, delegations, itemOf, carried}
+use Rattle.interface.specs.Message.{translateWindow, delegateWindow, delegateBit, payloadFits, descriptorAt, secondAt, Item, Moved, delegateItem, translateItem, sourceDomain, itemOf, carried}
 use Rattle.interface.specs.PortalCalls.{portalCall}
 use Rattle.interface.specs.Rules.{hypercall, rules, after}
 use Rattle.interface.specs.Consequences.{calleeDomain}

@@ -6,17 +6,17 @@ use mathlib.Core.List.{List, [], _∷_, _++_, map, flatten, append-assoc, append
 use native.Mathlib.Nat.{add-assoc, add-zero, le-refl}
 use native.Mathlib.Omega.{arith}
 use lib.Dec.{eqb, ltb}
-use lib.ListN.{length, take, drop, length-append, length-take, length-drop, take-append-drop}
+use lib.ListN.{length, take, drop, length-append, take-append-drop}
 use lib.Seq.{length-take-le, take-at, drop-at}
 use borrow.Author.Tests.{ltb-false, le-ltb}
 use Rattle.descriptor.specs.Replies.{statusOf, answerOf}
 use Rattle.interface.specs.Places.{State, Tables, tablesOf}
 use Rattle.interface.specs.Boot.{boot}
-use Rattle.interface.specs.Verdicts.{Call, Verdict, replyOf}
-use Rattle.interface.specs.Rules.{rules, after, judged, hypercallReply, hypercallTables}
-use Rattle.interface.specs.History.{History, Event, hypercalls, told, tell, bootHistory}
+use Rattle.interface.specs.Verdicts.{Call, replyOf}
+use Rattle.interface.specs.Rules.{rules, after, judged, hypercallTables}
+use Rattle.interface.specs.History.{History, hypercalls, told, tell, bootHistory}
 use Rattle.interface.specs.Demand.{tablesAfter, tablesAfterAll}
-use Rattle.interface.specs.Journal.{bodyBytes, recordedCall, Line, done, spelled, spelledLines, Beginning, empty, of-no-kind, cut-off, whole, beginning, Contents, readBy, contentsFrom, contents, recorded, linesFrom, stopLines, lastLines, replayFrom, replay, replayPieces, PartsInTurn, PiecesInTurn}
+use Rattle.interface.specs.Journal.{bodyBytes, recordedCall, Line, done, spelled, spelledLines, Beginning, empty, of-no-kind, cut-off, whole, beginning, Contents, readBy, contentsFrom, contents, recorded, linesFrom, lastLines, replayFrom, replay, replayPieces, PartsInTurn, PiecesInTurn}
 use Rattle.interface.proofs.BoolLaws.{cases}
 use Rattle.interface.proofs.Soundness.{Sound, sound-facts}
 use Rattle.interface.proofs.HistoryLaws.{Valid}

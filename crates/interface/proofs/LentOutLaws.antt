@@ -1,5 +1,5 @@
 -- What tables and the history of the same events say of each other: demand 3.
-use Prim.Native.Nat.{ℕ, zero, suc, _+_, _%_, _^_, _≤_, _<_}
+use Prim.Native.Nat.{ℕ, zero, suc, _+_, _^_, _≤_, _<_}
 use mathlib.Core.Path.{_≡_, refl, sym, ap, _∙_, subst}
 use mathlib.Core.Bool.{true, false, not, _&&_, _||_, and-false, or-false}
 use mathlib.Core.List.{List, [], _∷_, _++_}
@@ -7,17 +7,13 @@ use native.Mathlib.Omega.{arith}
 use lib.Dec.{eqb, ltb, leb}
 use lib.ListN.{length, drop}
 use borrow.Author.Tests.{eq-eqb, ne-eqb, eqb-true, lt-ltb, le-ltb, ltb-true, ltb-false, leb-true, le-leb, lt-leb}
-use Rattle.words.specs.Sizes.{memory, io, spaceOf, selectorOf, places}
+use Rattle.words.specs.Sizes.{memory, io, spaceOf, places}
 use Rattle.words.specs.Permissions.{revoked}
 use Rattle.words.proofs.BitLaws.{revoked-ones}
-use Rattle.words.proofs.PlaceLaws.{made-so, space-small, selector-small}
-use Rattle.descriptor.specs.declared.Range.{Range}
-use Rattle.descriptor.specs.declared.Reading.the-variants.{Good}
+use Rattle.words.proofs.PlaceLaws.{made-so}
 use Rattle.descriptor.specs.declared.Reply.the-variants.{Success}
-use Rattle.descriptor.specs.Descriptors.{Proper}
 use Rattle.interface.specs.Basics.{if_then_else_, any}
 use Rattle.interface.specs.Places.{State, Tables, live, nothing, capAt, placeTable, objectTable, tablesOf, greatest, greatestOf, kindOf}
-use Rattle.interface.specs.Descriptors.{describe, reading}
 use Rattle.interface.specs.Effects.{cut, chain, ancestors, among, below, stripped, cutCaps, act, run}
 use Rattle.interface.specs.Verdicts.{Call, grant, replyOf, blockOf}
 use Rattle.interface.specs.Revoke.{revoke}

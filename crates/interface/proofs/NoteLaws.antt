@@ -1,6 +1,6 @@
 -- A step that fits does the same to what a history shows as to a state, and the history stays valid.
 use Prim.Native.Nat.{ℕ, zero, suc, _≤_, _<_}
-use mathlib.Core.Path.{_≡_, refl, sym, ap, _∙_, fun-ext}
+use mathlib.Core.Path.{_≡_, refl, sym, ap, _∙_}
 use mathlib.Core.Bool.{Bool, true, false, not, _&&_}
 use mathlib.Core.List.{List}
 use native.Mathlib.Omega.{arith}
@@ -18,14 +18,11 @@ use Rattle.interface.proofs.BoolLaws.{cases, and-left, and-right}
 use Rattle.interface.proofs.PutLaws.{put-same, put-other, put-from-past}
 use Rattle.interface.proofs.Soundness.{Sound}
 use Rattle.interface.proofs.PlaceFacts.{kind-small}
+use Rattle.interface.proofs.TableLaws.{state-same}
 use Rattle.interface.proofs.Steps.{GiveFits, MakeFits, HoldFits, StoreFits}
 use Rattle.interface.proofs.HistoryLaws.{Valid, held-bound, held-is}
 use Rattle.interface.proofs.AddedLaws.{depthFrom, Addable, newCap, told-added, valid-added}
 use Rattle.interface.proofs.CutLaws.{told-cut, valid-cut, positive}
-
--- two states are the same where they show the same
-pub state-same : (a b : State) → ((p : ℕ) → a .caps p ≡ b .caps p) → ((r i : ℕ) → a .objects r i ≡ b .objects r i) → a ≡ b
-state-same a b c o = λ i. record { caps = fun-ext c i; objects = λ r k. o r k i }
 
 -- a history that shows what a step makes of a state, and is valid
 abbrev pub Follows : History → State → Type 0

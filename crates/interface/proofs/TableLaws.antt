@@ -1,6 +1,6 @@
 -- Tables and what they show: the tables of a state that ends where the tables do show that state.
 use Prim.Native.Nat.{ℕ, zero, suc, _+_, _*_, _/_, _%_, _≤_, _<_}
-use mathlib.Core.Path.{_≡_, refl, sym, ap₂, _∙_, subst}
+use mathlib.Core.Path.{_≡_, refl, sym, ap₂, _∙_, subst, fun-ext}
 use mathlib.Core.Bool.{true, false}
 use mathlib.Core.List.{[], _∷_}
 use native.Mathlib.Decide.{le-ind}
@@ -17,7 +17,6 @@ use Rattle.interface.specs.Places.{State, nothing, placeTableWords, obje
 use Rattle.interface.specs.Damage.{soundState, sound}
 use Rattle.interface.proofs.BoolLaws.{cases, both}
 use Rattle.interface.proofs.BelowLaws.{below-suc}
-use Rattle.interface.proofs.NoteLaws.{state-same}
 
 module _ {A : Type 0} (f : ℕ → A) where
   pub length-listed : (n : ℕ) → length (listed n f) ≡ n
@@ -43,6 +42,10 @@ module _ (f : ℕ → ℕ) where
 
   pub word-past : (n i : ℕ) → n ≤ i → word (listed n f) i ≡ 0
   word-past n i l = List·getD-eq-default (listed n f) 0 (rw (length-listed f n) l)
+
+-- two states are the same where they show the same
+pub state-same : (a b : State) → ((p : ℕ) → a .caps p ≡ b .caps p) → ((r i : ℕ) → a .objects r i ≡ b .objects r i) → a ≡ b
+state-same a b c o = λ i. record { caps = fun-ext c i; objects = λ r k. o r k i }
 
 -- a state ends where the tables do
 pub record Ends (s : State) : Type 0 where

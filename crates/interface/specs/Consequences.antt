@@ -14,8 +14,8 @@ use Rattle.descriptor.specs.declared.Reading.{Reading}
 use Rattle.descriptor.specs.declared.Reading.the-variants.{Null, Malformed, Good}
 use Rattle.descriptor.specs.declared.Reply.the-variants.{Damaged}
 use Rattle.interface.specs.Basics.{if_then_else_, word}
-use Rattle.interface.specs.Places.{Cap, State, Tables, live, parentless, free, PD, EC, SC, PT, SM, domainWord, ecWord, kindOf, greatestOf, objectPlace, objectIn, tablesOf}
-use Rattle.interface.specs.Boot.{boot, hypervisor, root}
+use Rattle.interface.specs.Places.{Cap, State, Tables, live, parentless, free, PD, EC, SC, PT, SM, domainWord, ecWord, kindOf, greatestOf, objectPlace, objectIn}
+use Rattle.interface.specs.Boot.{hypervisor, root}
 use Rattle.interface.specs.Damage.{sound}
 use Rattle.interface.specs.Descriptors.{describe, reading}
 use Rattle.interface.specs.Effects.{Effect, give, among, below, stripped}
