@@ -13,9 +13,9 @@ use Rattle.interface.specs.Damage.{soundState, sound}
 use Rattle.interface.specs.Effects.{run}
 use Rattle.interface.specs.Verdicts.{Call, Verdict, refuse, replyOf, effectsOf}
 use Rattle.interface.specs.Rules.{Runs}
-use Rattle.interface.proofs.BoolLaws.{and-left, and-right}
-use Rattle.interface.proofs.Soundness.{Sound, sound-facts}
-use Rattle.interface.proofs.SoundFacts.{ec-small, home, ec-home, own-record}
+use Rattle.interface.proofs.Basics.BoolLaws.{and-left, and-right}
+use Rattle.interface.proofs.Sound.Soundness.{Sound, sound-facts}
+use Rattle.interface.proofs.Sound.SoundFacts.{ec-small, home, ec-home, own-record}
 use Rattle.places.specs.Table.{Sized as SizedPlaces}
 use Rattle.places.proofs.CapTableLaws.{cap-table-back}
 use Rattle.objects.specs.Records.{Sized as SizedObjects}

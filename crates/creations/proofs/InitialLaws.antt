@@ -20,8 +20,8 @@ use Rattle.interface.specs.Places.{PD, kindWord, capAt, objectAt, capTable}
 use Rattle.interface.specs.Damage.{pdsBelow}
 use Rattle.interface.specs.Effects.{givenCaps, act, run}
 use Rattle.interface.specs.Creations.{handOn}
-use Rattle.interface.proofs.BoolLaws.{either-way}
-use Rattle.interface.proofs.TurnLaws.{run-append}
+use Rattle.interface.proofs.Basics.BoolLaws.{either-way}
+use Rattle.interface.proofs.Tables.TurnLaws.{run-append}
 use Rattle.places.specs.Table.{Sized, Given}
 use Rattle.places.proofs.CapTableLaws.{cap-at-table, cap-at-end, given-end}
 use Rattle.objects.specs.Records.{recordsIn}

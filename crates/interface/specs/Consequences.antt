@@ -17,7 +17,7 @@ use Rattle.interface.specs.Basics.{if_then_else_, word}
 use Rattle.interface.specs.Places.{Cap, State, Tables, live, parentless, free, PD, EC, SC, PT, SM, domainWord, ecWord, kindOf, greatestOf, objectPlace, objectIn}
 use Rattle.interface.specs.Boot.{hypervisor, root}
 use Rattle.interface.specs.Damage.{sound}
-use Rattle.interface.specs.Descriptors.{describe, reading}
+use Rattle.interface.specs.RangeDescriptors.{describe, reading}
 use Rattle.interface.specs.Effects.{Effect, give, among, below, stripped}
 use Rattle.interface.specs.Verdicts.{Call, CALL, CREATE-PD, REVOKE, LOOKUP, callerDomain, grant, effectsOf, blockOf}
 use Rattle.interface.specs.Creations.{newPlace, freeRecord, nextDomain}

@@ -12,7 +12,7 @@ use Rattle.interface.specs.Basics.{listed, lowest}
 use Rattle.interface.specs.Places.{State, live, free, PD, EC, SC, PT, SM, domainWord, kindOf, createBit, bindScBit, bindPtBit, objectPlace, objectIn, permitted}
 use Rattle.interface.specs.Boot.{cpus}
 use Rattle.interface.specs.Damage.{pdsBelow}
-use Rattle.interface.specs.Descriptors.{reading}
+use Rattle.interface.specs.RangeDescriptors.{reading}
 use Rattle.interface.specs.Effects.{Effect, give, make, hold}
 use Rattle.interface.specs.Verdicts.{Call, callerDomain, Verdict, grant, require_else_then_}
 

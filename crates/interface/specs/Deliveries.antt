@@ -15,7 +15,7 @@ use Rattle.descriptor.specs.declared.Match.the-variants.{Both}
 use Rattle.interface.specs.Basics.{if_then_else_, word}
 use Rattle.interface.specs.Places.{State, live, nothing, domainWord, kindOf}
 use Rattle.interface.specs.Damage.{soundState}
-use Rattle.interface.specs.Descriptors.{describe, reading}
+use Rattle.interface.specs.RangeDescriptors.{describe, reading}
 use Rattle.interface.specs.Effects.{Effect, run, filled}
 use Rattle.interface.specs.Verdicts.{Call, CALL, CREATE-PD, callerDomain, grant, deliver}
 use Rattle.interface.specs.Creations.{freeRecord, nextDomain}

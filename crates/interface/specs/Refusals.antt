@@ -16,7 +16,7 @@ use Rattle.descriptor.specs.declared.Reply.the-variants.{Success, ComTim, BadHy
 use Rattle.interface.specs.Basics.{word, member}
 use Rattle.interface.specs.Places.{State, Tables, shown, free, PD, EC, SC, PT, SM, ecWord, cpuWord, countWord, createBit, bindScBit, bindPtBit, callBit, kindOf, objectPlace, objectIn}
 use Rattle.interface.specs.Damage.{soundState, sound, hasPd, isEc}
-use Rattle.interface.specs.Descriptors.{typeField, orderField, baseField, reading}
+use Rattle.interface.specs.RangeDescriptors.{typeField, orderField, baseField, reading}
 use Rattle.interface.specs.Effects.{Effect}
 use Rattle.interface.specs.Verdicts.{Call, CALL, CREATE-PD, CREATE-EC, CREATE-SC, CREATE-PT, CREATE-SM, REVOKE, LOOKUP, SM-CTRL, callerDomain, grant, replyOf}
 use Rattle.interface.specs.Creations.{newPlace, pdPlace, ecPlace}

@@ -10,7 +10,7 @@ use Rattle.descriptor.specs.declared.Reply.{Reply}
 use Rattle.interface.specs.Basics.{if_then_else_}
 use Rattle.interface.specs.Places.{State, sized, tables, view}
 use Rattle.interface.specs.Damage.{soundState, sound}
-use Rattle.interface.specs.Descriptors.{reading, malformed}
+use Rattle.interface.specs.RangeDescriptors.{reading, malformed}
 use Rattle.interface.specs.Effects.{Effect, run}
 use Rattle.interface.specs.Verdicts.{Call, Verdict, refuse, grant, require_else_then_, replyOf, effectsOf, blockOf, CALL, CREATE-PD, CREATE-EC, CREATE-SC, CREATE-PT, CREATE-SM, REVOKE, LOOKUP, SM-CTRL}
 use Rattle.interface.specs.Creations.{creation, createPd, createEc, createSc, createPt, createSm}
@@ -19,8 +19,8 @@ use Rattle.interface.specs.Lookup.{lookup}
 use Rattle.interface.specs.Semaphores.{smCtrl}
 use Rattle.interface.specs.PortalCalls.{portalCall}
 use Rattle.interface.specs.Rules.{rule, not-built, hypercall, Runs}
-use Rattle.interface.proofs.BoolLaws.{cases, and-left, and-right, both}
-use Rattle.interface.proofs.ConsequenceLaws.{tables-back}
+use Rattle.interface.proofs.Basics.BoolLaws.{cases, and-left, and-right, both}
+use Rattle.interface.proofs.Consequences.ConsequenceLaws.{tables-back}
 use Rattle.capabilities.specs.Callers.{Called}
 use Rattle.kernel.specs.Admission.{isBuilt}
 

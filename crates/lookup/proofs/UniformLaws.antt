@@ -13,8 +13,8 @@ use Rattle.words.proofs.RangeLaws.{size-divides, rounded-divides, multiples-apa
 use Rattle.interface.specs.Basics.{allBelow}
 use Rattle.interface.specs.Places.{Cap, live}
 use Rattle.interface.specs.Lookup.{uniform, largest}
-use Rattle.interface.proofs.BoolLaws.{cases, both, not-both}
-use Rattle.interface.proofs.BelowLaws.{all-below-at}
+use Rattle.interface.proofs.Basics.BoolLaws.{cases, both, not-both}
+use Rattle.interface.proofs.Basics.BelowLaws.{all-below-at}
 
 -- the places of a range around a place are places
 pub range-places : (order place offset : ℕ) → order ≤ greatestOrder (spaceOf place) → place < placeCount → offset < 2 ^ order →

@@ -13,9 +13,9 @@ use borrow.Author.Tests.{eqb-true, eqb-false, lt-ltb, le-ltb}
 use Rattle.words.specs.Sizes.{records, recordWords}
 use Rattle.interface.specs.Basics.{word, put}
 use Rattle.interface.specs.Places.{State, nothing, kindWord, countWord, objectTableWords, objectAt, recordTable}
-use Rattle.interface.proofs.BoolLaws.{cases}
-use Rattle.interface.proofs.PutLaws.{put-same, put-other}
-use Rattle.interface.proofs.TableLaws.{length-listed, word-listed, shown-tables}
+use Rattle.interface.proofs.Basics.BoolLaws.{cases}
+use Rattle.interface.proofs.Basics.PutLaws.{put-same, put-other}
+use Rattle.interface.proofs.Tables.TableLaws.{length-listed, word-listed, shown-tables}
 use Rattle.objects.specs.Records.{Sized, fiveWords}
 
 -- records end where the object table does

@@ -17,7 +17,7 @@ use Rattle.interface.specs.Effects.{run}
 use Rattle.interface.specs.Verdicts.{Call, Verdict, refuse, deliver, require_else_then_, blockOf}
 use Rattle.interface.specs.Message.{payloadFits, transfer, Moved}
 use Rattle.interface.specs.PortalCalls.{portalCall}
-use Rattle.interface.proofs.SoundFacts.{portal-ec, permitted-kind, ec-small, home, ec-home}
+use Rattle.interface.proofs.Sound.SoundFacts.{portal-ec, permitted-kind, ec-small, home, ec-home}
 use Rattle.tree.specs.Walks.{placesOnly}
 use Rattle.transfer.specs.Turns.{Blocks, Transferred}
 use Rattle.transfer.proofs.UnseenLaws.{transferred-seen}
