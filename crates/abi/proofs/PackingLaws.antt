@@ -15,7 +15,7 @@ use Rattle.interface.specs.Places.{State, Tables, sized, shown, tables}
 use Rattle.interface.specs.Damage.{Rule, rulesOfDamage, firstFault, fault}
 use Rattle.interface.specs.Census.{CensusResult}
 use Rattle.interface.specs.Outcomes.{Booted, Outcome}
-use Rattle.interface.proofs.BoolLaws.{cases}
+use Rattle.interface.proofs.Basics.BoolLaws.{cases}
 use Rattle.abi.specs.Packing.{packed, packedFault, Booting, booting, Calling, calling, Counting, counting}
 
 -- the place that a fault names, or 0

@@ -15,7 +15,7 @@ use Rattle.descriptor.proofs.DescriptorLaws.{numbered-so}
 use Rattle.interface.specs.Basics.{word}
 use Rattle.interface.specs.Places.{Cap, nothing, parentless, free, PD, EC, SC, PT, SM, kindWord, greatestOf, greatest}
 use Rattle.interface.specs.Boot.{hypervisor, root, cpus, rootPd, rootEc, rootSc, rootObjects, exc, rootPriority, rootQuantum, noEc, bootRecord, bootObject, hypervisorCap, rootCap, bootCap}
-use Rattle.interface.proofs.BoolLaws.{cases, and-left, and-right}
+use Rattle.interface.proofs.Basics.BoolLaws.{cases, and-left, and-right}
 use Rattle.objects.specs.Records.{fiveWords}
 use Rattle.boot.specs.Held.{hypervisorObject, rootObject, heldCap}
 use Rattle.objects.proofs.RecordTableLaws.{short-words, two-words, four-words}

@@ -14,8 +14,8 @@ use Rattle.interface.specs.Places.{Cap, placeTableWords, objectTableWords, size
 use Rattle.interface.specs.Boot.{bootRecord, bootCap}
 use Rattle.interface.specs.Rules.{bootReply, bootTables}
 use Rattle.interface.specs.Outcomes.{Booted}
-use Rattle.interface.proofs.BoolLaws.{cases, and-left, and-right}
-use Rattle.interface.proofs.PutLaws.{put-same, put-other}
+use Rattle.interface.proofs.Basics.BoolLaws.{cases, and-left, and-right}
+use Rattle.interface.proofs.Basics.PutLaws.{put-same, put-other}
 use Rattle.places.specs.Table.{Sized as SizedPlaces}
 use Rattle.places.proofs.CapTableLaws.{length-cap-table, cap-at-table-below, cap-table-back, cap-table-same}
 use Rattle.objects.specs.Records.{Sized as SizedObjects, fiveWords}

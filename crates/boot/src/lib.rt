@@ -15,11 +15,6 @@ use descriptor::Reply;
 use descriptor::Selector;
 use words::sizes;
 
-// The domains of the hypervisor and of the root.
-const HYPERVISOR: u32 = 0;
-
-pub const ROOT: u32 = 1;
-
 // Each CPU has an idle SC and each interrupt a semaphore; the records of the root's PD, EC and SC follow them.
 const GSIS: u32 = 24;
 
@@ -57,10 +52,10 @@ fn boot_record(object: ObjectNumber) -> Words
         return Words(objects::SM, 0, 0, 0, 0);
     }
     if number == ROOT_PD {
-        return Words(objects::PD, ROOT, 0, 0, 0);
+        return Words(objects::PD, places::ROOT, 0, 0, 0);
     }
     if number == ROOT_EC {
-        return Words(objects::EC, ROOT, 0, 0, 0);
+        return Words(objects::EC, places::ROOT, 0, 0, 0);
     }
     if number == ROOT_SC {
         return Words(objects::SC, ROOT_EC, ROOT_PRIORITY, ROOT_QUANTUM, 0);
@@ -146,10 +141,10 @@ pub fn boot_cap(place: Place) -> Cap
     ensures { λ r. ⌜ r ≡ bootCap (place .0) ⌝ }
 {
     let domain = place.domain();
-    if domain == HYPERVISOR {
+    if domain == places::HYPERVISOR {
         return hypervisor_cap(place.space(), place.selector());
     }
-    if domain == ROOT {
+    if domain == places::ROOT {
         return root_cap(place.space(), place.selector());
     }
     null_cap()

@@ -8,15 +8,14 @@ use lib.ListN.{length}
 use borrow.Author.Tests.{eqb-true}
 use Rattle.words.specs.Sizes.{domains, records}
 use Rattle.descriptor.specs.declared.Reply.{Reply}
-use Rattle.descriptor.specs.declared.Reply.the-variants.{Success}
 use Rattle.interface.specs.Places.{Cap, State, domainWord, objectPlace, permitted, placeTableWords, objectTableWords, sized, capAt, objectAt, placeTable, objectTable, tables, view}
 use Rattle.interface.specs.Damage.{soundState, sound}
-use Rattle.interface.specs.Effects.{Effect, run}
-use Rattle.interface.specs.Verdicts.{Call, Verdict, refuse, grant}
+use Rattle.interface.specs.Effects.{run}
+use Rattle.interface.specs.Verdicts.{Call, Verdict, refuse, replyOf, effectsOf}
 use Rattle.interface.specs.Rules.{Runs}
-use Rattle.interface.proofs.BoolLaws.{and-left, and-right}
-use Rattle.interface.proofs.Soundness.{Sound, sound-facts}
-use Rattle.interface.proofs.SoundFacts.{ec-small, home, ec-home, own-record}
+use Rattle.interface.proofs.Basics.BoolLaws.{and-left, and-right}
+use Rattle.interface.proofs.Sound.Soundness.{Sound, sound-facts}
+use Rattle.interface.proofs.Sound.SoundFacts.{ec-small, home, ec-home, own-record}
 use Rattle.places.specs.Table.{Sized as SizedPlaces}
 use Rattle.places.proofs.CapTableLaws.{cap-table-back}
 use Rattle.objects.specs.Records.{Sized as SizedObjects}
@@ -74,9 +73,8 @@ module _ {places objects : List ℕ} {caller : ℕ} (called : Called places obje
     unfolding run
     refused-runs e = record { replies = rw e; leaves = rw (e, places-kept, objects-kept) }
 
-    -- an answer with the tables that the rule's steps leave runs the rule that grants them
-    pub granted-runs : {answer : ℕ} {effects : List Effect} {block placesAfter objectsAfter : List ℕ} →
-        verdict (view places objects) c ≡ grant answer effects block → placesAfter ≡ placeTable (run effects (view places objects)) →
-        objectsAfter ≡ objectTable (run effects (view places objects)) →
-        Runs verdict c (tables places objects) (tables placesAfter objectsAfter) (Success answer)
+    -- the verdict's reply with the tables that its steps leave runs the rule
+    pub granted-runs : {given : Verdict} {placesAfter objectsAfter : List ℕ} → verdict (view places objects) c ≡ given →
+        placesAfter ≡ placeTable (run (effectsOf given) (view places objects)) → objectsAfter ≡ objectTable (run (effectsOf given) (view places objects)) →
+        Runs verdict c (tables places objects) (tables placesAfter objectsAfter) (replyOf given)
     granted-runs e p o = record { replies = rw e; leaves = rw (e, p, o) }

@@ -6,7 +6,7 @@ use mathlib.Core.List.{List, [], _∷_}
 use native.Mathlib.Omega.{arith}
 use lib.Dec.{eqb, ltb}
 use borrow.Author.Tests.{ltb-true}
-use Rattle.words.specs.Sizes.{domains, object, selectors}
+use Rattle.words.specs.Sizes.{domains, object, selectors, records}
 use Rattle.descriptor.specs.declared.ObjectNumber.{ObjectNumber}
 use Rattle.descriptor.specs.declared.Reading.{Reading}
 use Rattle.descriptor.specs.declared.Reply.{Reply}
@@ -21,7 +21,7 @@ use Rattle.interface.specs.Effects.{Effect}
 use Rattle.interface.specs.Verdicts.{Call, callerDomain}
 use Rattle.interface.specs.Creations.{pdPlace, ecPlace, nextDomain, initialGood, initialGives, priority, quantum, createPd, createEc, createSc, createPt, createSm}
 use Rattle.interface.specs.Rules.{Runs}
-use Rattle.objects.specs.Records.{pdCount, fiveWords}
+use Rattle.objects.specs.Records.{recordsIn, fiveWords}
 use Rattle.objects.proofs.RecordTableLaws.{two-words, four-words}
 use Rattle.capabilities.specs.Callers.{Called}
 use Rattle.creations.specs.declared.Creation.{Creation}
@@ -75,7 +75,7 @@ module _ {places objects : List ℕ} {caller domain selector pd : ℕ} {found : 
     (is-second : c .second ≡ pd) where
   -- CREATE_PD
   module _ {initial kept count : ℕ} {range : Reading} {good : Bool} (is-third : c .third ≡ initial) (is-kept : kept ≡ keptWord initial)
-      (is-range : range ≡ reading kept) (is-good : good ≡ initialGood range) (is-count : count ≡ pdCount objects)
+      (is-range : range ≡ reading kept) (is-good : good ≡ initialGood range) (is-count : count ≡ pdsBelow (recordsIn objects) records)
       (decides : Decides (view places objects) domain selector pd (creationOf PD true true good (ltb (count + 1) domains)) found) where
     pd-follows : Follows createPd c places objects domain selector found (pdWords (view places objects)) (pdGives (view places objects) c)
     unfolding createPd pdsBelow
@@ -92,9 +92,9 @@ module _ {places objects : List ℕ} {caller domain selector pd : ℕ} {found : 
         Runs createPd c (tables places objects) (tables placesAfter objectsAfter) (Success 0)
     unfolding pdsBelow
     pd-granted {between = between} e hands stored =
-        let from-caller : Hands (initialGives (objectAt objects caller domainWord) (pdCount objects + 1) (reading initial)) places between =
+        let from-caller : Hands (initialGives (objectAt objects caller domainWord) (pdsBelow (recordsIn objects) records + 1) (reading initial)) places between =
         rw (is-range, is-kept, reading-kept initial, is-count, in-domain) at hands in
-        granted pd-follows e (rw (is-third, is-caller) from-caller) stored (rw is-count (two-words PD (pdCount objects + 1)))
+        granted pd-follows e (rw (is-third, is-caller) from-caller) stored (rw is-count (two-words PD (pdsBelow (recordsIn objects) records + 1)))
 
   -- CREATE_EC
   module _ {cpu base : ℕ} (is-third : c .third ≡ cpu) (is-fourth : c .fourth ≡ base)

@@ -24,7 +24,7 @@ use Rattle.creations.specs.Creating.{Judged, passed, failed}
 abbrev pub lastCheck : State → Call → Rule → Verdict
 lastCheck s c rule =
     require ltb (freeRecord s) records && rule .domain-left else NoRoom then
-    grant 0 (make (freeRecord s) (rule .words) ∷ rule .delegations ++ (hold (newPlace s c) (freeRecord s) ∷ [])) (c .target)
+    grant 0 (make (freeRecord s) (rule .words) ∷ rule .delegations ++ (hold (newPlace s c) (freeRecord s) ∷ []))
 
 abbrev pub ownChecks : State → Call → Rule → Verdict
 ownChecks s c rule =

@@ -13,8 +13,8 @@ use Rattle.interface.specs.Verdicts.{Call, Verdict, refuse}
 use Rattle.interface.specs.Creations.{newPlace, creation}
 use Rattle.interface.specs.Creations.{Creation as Rule}
 use Rattle.interface.specs.Rules.{Runs}
-use Rattle.interface.proofs.PutLaws.{put-same}
-use Rattle.interface.proofs.TurnLaws.{run-append}
+use Rattle.interface.proofs.Basics.PutLaws.{put-same}
+use Rattle.interface.proofs.Tables.TurnLaws.{run-append}
 use Rattle.objects.specs.Records.{fiveWords}
 use Rattle.capabilities.specs.Callers.{Called}
 use Rattle.capabilities.proofs.CallerLaws.{named-record, refused-runs, granted-runs}

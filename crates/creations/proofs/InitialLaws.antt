@@ -17,13 +17,14 @@ use Rattle.descriptor.specs.declared.Reading.the-variants.{Good}
 use Rattle.descriptor.specs.Descriptors.{Proper}
 use Rattle.interface.specs.Basics.{listed, countBelow}
 use Rattle.interface.specs.Places.{PD, kindWord, capAt, objectAt, capTable}
+use Rattle.interface.specs.Damage.{pdsBelow}
 use Rattle.interface.specs.Effects.{givenCaps, act, run}
 use Rattle.interface.specs.Creations.{handOn}
-use Rattle.interface.proofs.BoolLaws.{either-way}
-use Rattle.interface.proofs.TurnLaws.{run-append}
+use Rattle.interface.proofs.Basics.BoolLaws.{either-way}
+use Rattle.interface.proofs.Tables.TurnLaws.{run-append}
 use Rattle.places.specs.Table.{Sized, Given}
 use Rattle.places.proofs.CapTableLaws.{cap-at-table, cap-at-end, given-end}
-use Rattle.objects.specs.Records.{pdCount}
+use Rattle.objects.specs.Records.{recordsIn}
 use Rattle.creations.specs.Creating.{Hands, Initial}
 
 -- one more place is handed on by a delegation
@@ -59,5 +60,6 @@ count-small zero test = omega arith
 count-small (suc n) test =
     either-way (λ (k : ℕ). countBelow n test + k ≤ suc n) (test n) 1 0 (omega (arith, count-small n test)) (omega (arith, count-small n test))
 
-pub next-fits : {count : ℕ} (table : List ℕ) → count ≡ pdCount table → Fits w32 (count + 1)
+pub next-fits : {count : ℕ} (table : List ℕ) → count ≡ pdsBelow (recordsIn table) records → Fits w32 (count + 1)
+unfolding pdsBelow
 next-fits table e = omega (arith, count-small records (λ r. eqb (objectAt table r kindWord) PD))

@@ -35,7 +35,7 @@ ruleOf new words delegations =
 
 -- a creation that passes its checks: its rule grants the steps that give the object a record, and the tests that the steps rely on hold
 pub record Passes (s : State) (c : Call) (rule : Rule) (number : ℕ) : Type 0 where
-  pub grants : creation s c rule ≡ grant 0 (make number (rule .words) ∷ rule .delegations ++ (hold (newPlace s c) number ∷ [])) (c .target)
+  pub grants : creation s c rule ≡ grant 0 (make number (rule .words) ∷ rule .delegations ++ (hold (newPlace s c) number ∷ []))
   pub is-record : number < records
   pub by-pd : permitted s (pdPlace s c) PD (createBit (rule .kind)) ≡ true
   pub bindable : rule .bindable ≡ true

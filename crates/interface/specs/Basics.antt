@@ -18,6 +18,11 @@ word list number = getD list number 0
 unfoldable pub put : {A : Type 0} → (ℕ → A) → ℕ → A → (ℕ → A)
 put f number value other = if eqb other number then value else f other
 
+-- a function changed from a number on, where its values become those of a list
+unfoldable pub putFrom : {A : Type 0} → (ℕ → A) → ℕ → List A → (ℕ → A)
+putFrom f number [] = f
+putFrom f number (value ∷ values) = put (putFrom f (suc number) values) number value
+
 -- the list of a function's first values
 unfoldable pub listed : {A : Type 0} → ℕ → (ℕ → A) → List A
 listed zero f = []

@@ -12,7 +12,7 @@ use Rattle.interface.specs.Basics.{listed, lowest}
 use Rattle.interface.specs.Places.{State, live, free, PD, EC, SC, PT, SM, domainWord, kindOf, createBit, bindScBit, bindPtBit, objectPlace, objectIn, permitted}
 use Rattle.interface.specs.Boot.{cpus}
 use Rattle.interface.specs.Damage.{pdsBelow}
-use Rattle.interface.specs.Descriptors.{reading}
+use Rattle.interface.specs.RangeDescriptors.{reading}
 use Rattle.interface.specs.Effects.{Effect, give, make, hold}
 use Rattle.interface.specs.Verdicts.{Call, callerDomain, Verdict, grant, require_else_then_}
 
@@ -54,7 +54,7 @@ creation s c new =
     require new .cpu-good else BadCpu then
     require new .parameters-good else BadPar then
     require ltb (freeRecord s) records && new .domain-left else NoRoom then
-    grant 0 (make (freeRecord s) (new .words) ∷ new .delegations ++ (hold (newPlace s c) (freeRecord s) ∷ [])) (c .target)
+    grant 0 (make (freeRecord s) (new .words) ∷ new .delegations ++ (hold (newPlace s c) (freeRecord s) ∷ []))
 
 -- delegating each place of a range of object selectors to the same selectors of another domain
 abbrev pub handOn : ℕ → ℕ → ℕ → ℕ → ℕ → List Effect

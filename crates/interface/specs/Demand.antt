@@ -13,7 +13,7 @@ use Rattle.interface.specs.Basics.{if_then_else_, member, rising}
 use Rattle.interface.specs.Places.{State, Tables, live, nothing, domainWord, capAt, tablesOf, shown}
 use Rattle.interface.specs.Boot.{boot}
 use Rattle.interface.specs.Damage.{isEc}
-use Rattle.interface.specs.Descriptors.{describe, reading}
+use Rattle.interface.specs.RangeDescriptors.{describe, reading}
 use Rattle.interface.specs.Verdicts.{Call, REVOKE}
 use Rattle.interface.specs.Rules.{hypercallReply, hypercallBlock, hypercallTables}
 use Rattle.interface.specs.Outcomes.{Outcome}

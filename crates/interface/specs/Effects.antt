@@ -5,17 +5,21 @@ use mathlib.Core.List.{List, [], _∷_}
 use lib.Dec.{eqb, leb, ltb}
 use Rattle.words.specs.Sizes.{greatestDepth}
 use Rattle.words.specs.Permissions.{delegated, revoked}
-use Rattle.interface.specs.Basics.{if_then_else_, word, put, any}
+use Rattle.interface.specs.Basics.{if_then_else_, word, put, putFrom, any}
 use Rattle.interface.specs.Places.{Cap, State, live, nothing, parentless, countWord, kindOf, greatestOf}
 
 -- the steps: delegating one place to another with a mask; storing a new object's words in a record; giving a place a capability for an object, with greatest permissions and
--- no parent; removing a mask's permissions below a range of places, and from the range too if asked; storing a semaphore's count
+-- no parent; removing a mask's permissions below a range of places, and from the range too if asked; storing words in a record from one of its words on
 pub data Effect : Type 0 where
   give : (destination source mask : ℕ) → Effect
   make : (number : ℕ) (words : List ℕ) → Effect
   hold : (place number : ℕ) → Effect
   cut : (mask first size : ℕ) (self : Bool) → Effect
-  count : (number value : ℕ) → Effect
+  store : (number from : ℕ) (words : List ℕ) → Effect
+
+-- storing a semaphore's count
+abbrev pub count : ℕ → ℕ → Effect
+count number value = store number countWord (value ∷ [])
 
 -- a walk along links, each a number plus 1 or 0 for none, of at most `steps` steps: the numbers passed
 unfoldable pub chain : ℕ → (ℕ → ℕ) → ℕ → List ℕ
@@ -67,7 +71,7 @@ act (give destination source mask) s = record { caps = givenCaps (s .caps) desti
 act (make number words) s = record { caps = s .caps; objects = put (s .objects) number (word words) }
 act (hold place number) s = record { caps = put (s .caps) place (parentless number (greatestOf (kindOf s number))); objects = s .objects }
 act (cut mask first size self) s = record { caps = cutCaps mask first size self (s .caps); objects = s .objects }
-act (count number value) s = record { caps = s .caps; objects = put (s .objects) number (put (s .objects number) countWord value) }
+act (store number from words) s = record { caps = s .caps; objects = put (s .objects) number (putFrom (s .objects number) from words) }
 
 -- what steps in turn make of a state
 unfoldable pub run : List Effect → State → State
@@ -80,7 +84,7 @@ fillsOne (give destination source mask) s = if fills (s .caps) destination sourc
 fillsOne (make number words) s = 0
 fillsOne (hold place number) s = 0
 fillsOne (cut mask first size self) s = 0
-fillsOne (count number value) s = 0
+fillsOne (store number from words) s = 0
 
 unfoldable pub filled : List Effect → State → ℕ
 filled [] s = 0

@@ -15,7 +15,7 @@ use Rattle.interface.specs.Basics.{if_then_else_, word, listed}
 use Rattle.interface.specs.Places.{Cap, State, nothing, parentless, PD, EC, PT, domainWord, free, SC, SM, kindWord, cpuWord, eventBaseWord, ecWord, priorityWord, quantumWord, mtdWord, entryWord, identifierWord, countWord, namedWords, greatest, createBit, bindScBit, bindPtBit, callBit, objectPlace, capWords, placeTableWords, objectTableWords}
 use Rattle.interface.specs.Boot.{boot, hypervisor, root, rootEc, bootRecord, cpus, gsis}
 use Rattle.interface.specs.Damage.{soundState}
-use Rattle.interface.specs.Descriptors.{typeOf, wordOf, reading, typeField, maskField, orderField, baseField}
+use Rattle.interface.specs.RangeDescriptors.{typeOf, wordOf, reading, typeField, maskField, orderField, baseField}
 use Rattle.interface.specs.Effects.{Effect, give, act, run}
 use Rattle.interface.specs.Revoke.{cuts, revoke}
 use Rattle.interface.specs.Message.{delegations, headWords, translateWindow, delegateWindow, payloadWords, untypedCount, typedCount, descriptorAt, secondAt, delegateBit, hypervisorBit, hotspotField}

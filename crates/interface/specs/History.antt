@@ -6,10 +6,10 @@ use lib.Dec.{eqb, ltb}
 use lib.ListN.{length}
 use Rattle.words.specs.Sizes.{places}
 use Rattle.words.specs.Permissions.{delegated, revoked}
-use Rattle.interface.specs.Basics.{if_then_else_, word, put, any, gather}
-use Rattle.interface.specs.Places.{Cap, State, live, nothing, countWord, kindOf, greatestOf}
+use Rattle.interface.specs.Basics.{if_then_else_, word, put, putFrom, any, gather}
+use Rattle.interface.specs.Places.{Cap, State, live, nothing, kindOf, greatestOf}
 use Rattle.interface.specs.Boot.{boot, bootCap}
-use Rattle.interface.specs.Effects.{Effect, give, make, hold, cut, count, chain, among, fills}
+use Rattle.interface.specs.Effects.{Effect, give, make, hold, cut, store, chain, among, fills}
 use Rattle.interface.specs.Verdicts.{Call, effectsOf}
 use Rattle.interface.specs.Rules.{rules}
 
@@ -92,8 +92,8 @@ note (give destination source mask) h =
 note (make number words) h = record { objects = put (h .objects) number (word words); total = h .total; fillings = h .fillings }
 note (hold place number) h = added h (record { place = place; resource = number; permissions = greatestOf (kindOf (told h) number); source = 0 })
 note (cut mask first size self) h = record { objects = h .objects; total = h .total; fillings = cutFilling mask first size self h }
-note (count number value) h =
-    record { objects = put (h .objects) number (put (h .objects number) countWord value); total = h .total; fillings = h .fillings }
+note (store number from words) h =
+    record { objects = put (h .objects) number (putFrom (h .objects number) from words); total = h .total; fillings = h .fillings }
 
 unfoldable pub noteAll : List Effect → History → History
 noteAll [] h = h

@@ -4,7 +4,7 @@ pub mod Basics
 pub mod Places
 pub mod Boot
 pub mod Damage
-pub mod Descriptors
+pub mod RangeDescriptors
 pub mod Effects
 pub mod Verdicts
 pub mod Creations

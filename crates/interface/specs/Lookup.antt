@@ -11,7 +11,7 @@ use Rattle.descriptor.specs.declared.Reading.the-variants.{Null, Malformed, Goo
 use Rattle.descriptor.specs.declared.Reply.the-variants.{BadPar}
 use Rattle.interface.specs.Basics.{if_then_else_, allBelow}
 use Rattle.interface.specs.Places.{Cap, State, live}
-use Rattle.interface.specs.Descriptors.{describe, reading, malformed}
+use Rattle.interface.specs.RangeDescriptors.{describe, reading, malformed}
 use Rattle.interface.specs.Verdicts.{Call, Verdict, grant, require_else_then_, callerDomain}
 
 -- whether the places of the aligned range of an order around a selector are all live, with equal permissions and resources rising by one
@@ -50,4 +50,4 @@ found s domain (Good range) =
 unfoldable pub lookup : State → Call → Verdict
 lookup s c =
     require not (malformed (reading (c .first))) else BadPar then
-    grant (found s (callerDomain s c) (reading (c .first))) [] (c .target)
+    grant (found s (callerDomain s c) (reading (c .first))) []

@@ -17,7 +17,7 @@ use Rattle.descriptor.specs.declared.Reason.the-variants.{NothingFilled, Transl
 use Rattle.interface.specs.Basics.{if_then_else_, word, listed, allBelow}
 use Rattle.interface.specs.Places.{Cap, State}
 use Rattle.interface.specs.Boot.{hypervisor, root}
-use Rattle.interface.specs.Descriptors.{null, describe, reading, matched}
+use Rattle.interface.specs.RangeDescriptors.{null, describe, reading, matched}
 use Rattle.interface.specs.Effects.{Effect, give, ancestors, run, filled}
 
 -- the words before the payload: word 0, the windows for translate and delegate, and a spare word

@@ -6,7 +6,7 @@ use Rattle.words.specs.Sizes.{blockWords}
 use Rattle.descriptor.specs.declared.Reply.the-variants.{ComTim, BadCap, BadPar, BadCpu}
 use Rattle.interface.specs.Basics.{word}
 use Rattle.interface.specs.Places.{State, PT, ecWord, domainWord, cpuWord, callBit, objectPlace, permitted, objectIn}
-use Rattle.interface.specs.Verdicts.{Call, Verdict, grant, require_else_then_, callerDomain}
+use Rattle.interface.specs.Verdicts.{Call, Verdict, deliver, require_else_then_, callerDomain}
 use Rattle.interface.specs.Message.{payloadFits, transfer}
 
 -- CALL: portal selector, the caller's message block and the callee's. The callee is the portal's EC, and the answer counts the places filled
@@ -20,4 +20,4 @@ portalCall s c =
     require not (eqb callee (c .caller)) else ComTim then
     require eqb (s .objects callee cpuWord) (s .objects (c .caller) cpuWord) else BadCpu then
     require payloadFits (word (c .source) 0) else BadPar then
-    grant (moved .filled) (moved .effects) (moved .block)
+    deliver (moved .filled) (moved .effects) (moved .block)

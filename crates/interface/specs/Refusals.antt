@@ -16,7 +16,7 @@ use Rattle.descriptor.specs.declared.Reply.the-variants.{Success, ComTim, BadHy
 use Rattle.interface.specs.Basics.{word, member}
 use Rattle.interface.specs.Places.{State, Tables, shown, free, PD, EC, SC, PT, SM, ecWord, cpuWord, countWord, createBit, bindScBit, bindPtBit, callBit, kindOf, objectPlace, objectIn}
 use Rattle.interface.specs.Damage.{soundState, sound, hasPd, isEc}
-use Rattle.interface.specs.Descriptors.{typeField, orderField, baseField, reading}
+use Rattle.interface.specs.RangeDescriptors.{typeField, orderField, baseField, reading}
 use Rattle.interface.specs.Effects.{Effect}
 use Rattle.interface.specs.Verdicts.{Call, CALL, CREATE-PD, CREATE-EC, CREATE-SC, CREATE-PT, CREATE-SM, REVOKE, LOOKUP, SM-CTRL, callerDomain, grant, replyOf}
 use Rattle.interface.specs.Creations.{newPlace, pdPlace, ecPlace}
@@ -220,13 +220,13 @@ pub record SmCtrlRefusedExactly : Type 0 where
 -- LOOKUP: BAD_PAR exactly for a malformed descriptor; otherwise it is granted, takes no step and leaves the block
 pub record LookupRefusedExactly : Type 0 where
   pub lookup-bad-par : Every LOOKUP (λ s c. Answers s c BadPar ↔ (reading (c .first) ≡ Malformed))
-  pub lookup-granted : Every LOOKUP (λ s c. ((answer : ℕ) × (rules s c ≡ grant answer [] (c .target))) ↔ (reading (c .first) ≡ Malformed → ⊥))
+  pub lookup-granted : Every LOOKUP (λ s c. ((answer : ℕ) × (rules s c ≡ grant answer [])) ↔ (reading (c .first) ≡ Malformed → ⊥))
   pub lookup-no-other : Every LOOKUP (StatusAmong (0 ∷ 5 ∷ []))
 
 -- REVOKE: BAD_PAR exactly for a self word above 1 or a malformed descriptor; otherwise it is granted, answers 0 and leaves the block
 pub record RevokeRefusedExactly : Type 0 where
   pub revoke-bad-par : Every REVOKE (λ s c. Answers s c BadPar ↔ ((1 < c .second) ⊎ ((c .second ≤ 1) and-then (reading (c .first) ≡ Malformed))))
-  pub revoke-granted : Every REVOKE (λ s c. ((effects : List Effect) × (rules s c ≡ grant 0 effects (c .target))) ↔ ((c .second ≤ 1) and-then (reading (c .first) ≡ Malformed → ⊥)))
+  pub revoke-granted : Every REVOKE (λ s c. ((effects : List Effect) × (rules s c ≡ grant 0 effects)) ↔ ((c .second ≤ 1) and-then (reading (c .first) ≡ Malformed → ⊥)))
   pub revoke-no-other : Every REVOKE (StatusAmong (0 ∷ 5 ∷ []))
 
 -- The census.

@@ -8,7 +8,7 @@ use Rattle.descriptor.specs.declared.Reading.{Reading}
 use Rattle.descriptor.specs.declared.Reading.the-variants.{Null, Malformed, Good}
 use Rattle.descriptor.specs.declared.Reply.the-variants.{BadPar}
 use Rattle.interface.specs.Places.{State}
-use Rattle.interface.specs.Descriptors.{reading, malformed}
+use Rattle.interface.specs.RangeDescriptors.{reading, malformed}
 use Rattle.interface.specs.Effects.{Effect, cut}
 use Rattle.interface.specs.Verdicts.{Call, Verdict, grant, require_else_then_, callerDomain}
 
@@ -23,4 +23,4 @@ unfoldable pub revoke : State → Call → Verdict
 revoke s c =
     require leb (c .second) 1 else BadPar then
     require not (malformed (reading (c .first))) else BadPar then
-    grant 0 (cuts (callerDomain s c) (eqb (c .second) 1) (reading (c .first))) (c .target)
+    grant 0 (cuts (callerDomain s c) (eqb (c .second) 1) (reading (c .first)))

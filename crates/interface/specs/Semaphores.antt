@@ -25,7 +25,7 @@ smCtrl s c =
     require permitted s place SM (c .second) else BadCap then
     if eqb (c .second) up then
     (require ltb value greatestWord else BadPar then
-    grant 0 (count (objectIn s place) (value + 1) ∷ []) (c .target))
+    grant 0 (count (objectIn s place) (value + 1) ∷ []))
     else
     (require ltb 0 value else ComTim then
-    grant 0 (count (objectIn s place) (value - 1) ∷ []) (c .target))
+    grant 0 (count (objectIn s place) (value - 1) ∷ []))

@@ -52,10 +52,11 @@ SM-CTRL = 11
 abbrev pub callerDomain : State → Call → ℕ
 callerDomain s c = s .objects (c .caller) domainWord
 
--- a rule's verdict: a refusal with its reply, or an answer, the steps to take, and the callee's block as it is given back
+-- a rule's verdict: a refusal with its reply; or an answer and the steps to take, which leaves the callee's block; or, for a message, these and the block as it is given back
 pub data Verdict : Type 0 where
   refuse : Reply → Verdict
-  grant : (answer : ℕ) → List Effect → (block : List ℕ) → Verdict
+  grant : (answer : ℕ) → List Effect → Verdict
+  deliver : (answer : ℕ) → List Effect → (block : List ℕ) → Verdict
 
 -- a check of a rule: where its test fails the call is refused, else the rule goes on
 infixr 4 require_else_then_
@@ -65,14 +66,17 @@ require test else reply then next = cond test next (refuse reply)
 -- a verdict's reply: SUCCESS with the answer where the call is not refused
 abbrev pub replyOf : Verdict → Reply
 replyOf (refuse reply) = reply
-replyOf (grant answer effects block) = Success answer
+replyOf (grant answer effects) = Success answer
+replyOf (deliver answer effects block) = Success answer
 
 -- a verdict's steps: a refused call takes none
 abbrev pub effectsOf : Verdict → List Effect
 effectsOf (refuse reply) = []
-effectsOf (grant answer effects block) = effects
+effectsOf (grant answer effects) = effects
+effectsOf (deliver answer effects block) = effects
 
--- the callee's block after the call: a refused call leaves it
+-- the callee's block after the call: only a message changes it
 abbrev pub blockOf : List ℕ → Verdict → List ℕ
 blockOf target (refuse reply) = target
-blockOf target (grant answer effects block) = block
+blockOf target (grant answer effects) = target
+blockOf target (deliver answer effects block) = block

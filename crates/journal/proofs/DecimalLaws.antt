@@ -11,7 +11,7 @@ use lib.ListN.{length, length-append}
 use borrow.Author.Tests.{lt-ltb, le-ltb}
 use Rattle.io.specs.Digits.{digits, Fewest}
 use Rattle.interface.specs.Journal.{width, decimal}
-use Rattle.interface.proofs.BoolLaws.{cases}
+use Rattle.interface.proofs.Basics.BoolLaws.{cases}
 
 -- there are as many digits as were asked for
 length-digits : (base count number : ℕ) → length (digits base count number) ≡ count

@@ -8,25 +8,6 @@ ghost use Rattle.interface.specs.Verdicts.{CALL};
 ghost use Rattle.interface.specs.Journal.{bodyBytes, bodyWord, recordedCall};
 use words::sizes;
 
-// The kinds of records: the numbers of the hypercalls.
-pub const CALL: u8 = 0;
-
-pub const CREATE_PD: u8 = 2;
-
-pub const CREATE_EC: u8 = 3;
-
-pub const CREATE_SC: u8 = 4;
-
-pub const CREATE_PT: u8 = 5;
-
-pub const CREATE_SM: u8 = 6;
-
-pub const REVOKE: u8 = 7;
-
-pub const LOOKUP: u8 = 8;
-
-pub const SM_CTRL: u8 = 11;
-
 // The bytes of a word.
 const WORD_BYTES: usize = 4;
 
@@ -39,16 +20,16 @@ const TARGET_START: usize = SOURCE_START + sizes::BLOCK_WORDS;
 pub fn body_bytes(kind: u8) -> usize
     ensures { λ r. ⌜ r ≡ bodyBytes kind ⌝ }
 {
-    match kind {
-        CALL => 520,
-        CREATE_PD => 16,
-        CREATE_EC => 20,
-        CREATE_SC => 20,
-        CREATE_PT => 28,
-        CREATE_SM => 16,
-        REVOKE => 12,
-        LOOKUP => 8,
-        SM_CTRL => 12,
+    match kind as u32 {
+        kernel::CALL => 520,
+        kernel::CREATE_PD => 16,
+        kernel::CREATE_EC => 20,
+        kernel::CREATE_SC => 20,
+        kernel::CREATE_PT => 28,
+        kernel::CREATE_SM => 16,
+        kernel::REVOKE => 12,
+        kernel::LOOKUP => 8,
+        kernel::SM_CTRL => 12,
         _ => 0,
     }
 }

@@ -24,10 +24,10 @@ use Rattle.interface.specs.Rules.{Built, rule, not-built, hypercall, called, ju
 use Rattle.interface.specs.Outcomes.{Outcome, outcome, Answered, answered, Booted}
 use Rattle.interface.specs.Census.{CensusResult, counted, censusOf}
 use Rattle.interface.specs.Demand.{tablesAfterAll, fromBoot, GoesOn, ShowsHeirs}
-use Rattle.interface.proofs.BoolLaws.{cases, and-left, and-right}
-use Rattle.interface.proofs.ConsequenceLaws.{judged-once, refused-stays}
-use Rattle.interface.proofs.DemandLaws.{goes-on, shows-heirs}
-use Rattle.interface.proofs.Soundness.{sound-facts}
+use Rattle.interface.proofs.Basics.BoolLaws.{cases, and-left, and-right}
+use Rattle.interface.proofs.Consequences.ConsequenceLaws.{judged-once, refused-stays}
+use Rattle.interface.proofs.History.DemandLaws.{goes-on, shows-heirs}
+use Rattle.interface.proofs.Sound.Soundness.{sound-facts}
 use Rattle.tree.specs.Walks.{Linked, placesOnly}
 use Rattle.tree.proofs.LinkLaws.{sound-linked}
 use Rattle.capabilities.specs.Callers.{Called}

@@ -10,7 +10,7 @@ use Rattle.descriptor.specs.declared.Reply.{Reply}
 use Rattle.interface.specs.Basics.{if_then_else_}
 use Rattle.interface.specs.Places.{State, sized, tables, view}
 use Rattle.interface.specs.Damage.{soundState, sound}
-use Rattle.interface.specs.Descriptors.{reading, malformed}
+use Rattle.interface.specs.RangeDescriptors.{reading, malformed}
 use Rattle.interface.specs.Effects.{Effect, run}
 use Rattle.interface.specs.Verdicts.{Call, Verdict, refuse, grant, require_else_then_, replyOf, effectsOf, blockOf, CALL, CREATE-PD, CREATE-EC, CREATE-SC, CREATE-PT, CREATE-SM, REVOKE, LOOKUP, SM-CTRL}
 use Rattle.interface.specs.Creations.{creation, createPd, createEc, createSc, createPt, createSm}
@@ -19,8 +19,8 @@ use Rattle.interface.specs.Lookup.{lookup}
 use Rattle.interface.specs.Semaphores.{smCtrl}
 use Rattle.interface.specs.PortalCalls.{portalCall}
 use Rattle.interface.specs.Rules.{rule, not-built, hypercall, Runs}
-use Rattle.interface.proofs.BoolLaws.{cases, and-left, and-right, both}
-use Rattle.interface.proofs.ConsequenceLaws.{tables-back}
+use Rattle.interface.proofs.Basics.BoolLaws.{cases, and-left, and-right, both}
+use Rattle.interface.proofs.Consequences.ConsequenceLaws.{tables-back}
 use Rattle.capabilities.specs.Callers.{Called}
 use Rattle.kernel.specs.Admission.{isBuilt}
 
@@ -134,7 +134,7 @@ pub record Stays (block : List ℕ) (verdict : Verdict) : Type 0 where
 stays-refused : (block : List ℕ) (reply : Reply) → Stays block (refuse reply)
 stays-refused block reply = record { stays = refl }
 
-stays-granted : (block : List ℕ) (answer : ℕ) (effects : List Effect) → Stays block (grant answer effects block)
+stays-granted : (block : List ℕ) (answer : ℕ) (effects : List Effect) → Stays block (grant answer effects)
 stays-granted block answer effects = record { stays = refl }
 
 stays-choice : (block : List ℕ) (test : Bool) (x y : Verdict) → Stays block x → Stays block y → Stays block (if test then x else y)

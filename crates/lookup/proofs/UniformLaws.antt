@@ -12,8 +12,8 @@ use Rattle.words.proofs.RangeLaws.{size-divides, rounded-divides, multiples-apa
 use Rattle.interface.specs.Basics.{allBelow}
 use Rattle.interface.specs.Places.{Cap, live}
 use Rattle.interface.specs.Lookup.{uniform, largest}
-use Rattle.interface.proofs.BoolLaws.{cases, both, not-both}
-use Rattle.interface.proofs.BelowLaws.{all-below-at}
+use Rattle.interface.proofs.Basics.BoolLaws.{cases, both, not-both}
+use Rattle.interface.proofs.Basics.BelowLaws.{all-below-at}
 
 -- a range around a selector ends in its space, and the selector lies in it
 pub range-ends : (greatest order selector : ℕ) → order ≤ greatest → selector < 2 ^ greatest → rounded order selector + 2 ^ order ≤ 2 ^ greatest

@@ -12,13 +12,11 @@ use lib.Seq.{ext-getD, getD-set-same, getD-set-other}
 use borrow.Author.Tests.{eqb-true, eqb-false, lt-ltb, le-ltb}
 use Rattle.words.specs.Sizes.{records, recordWords}
 use Rattle.interface.specs.Basics.{word, put}
-use Rattle.interface.specs.Places.{Cap, State, nothing, kindWord, countWord, objectTableWords, objectAt, recordTable}
-use Rattle.interface.specs.Creations.{freeRecord}
-use Rattle.interface.specs.Damage.{pdsBelow}
-use Rattle.interface.proofs.BoolLaws.{cases}
-use Rattle.interface.proofs.PutLaws.{put-same, put-other}
-use Rattle.interface.proofs.TableLaws.{length-listed, word-listed, shown-tables}
-use Rattle.objects.specs.Records.{Sized, lowestFree, pdCount, fiveWords}
+use Rattle.interface.specs.Places.{State, nothing, kindWord, countWord, objectTableWords, objectAt, recordTable}
+use Rattle.interface.proofs.Basics.BoolLaws.{cases}
+use Rattle.interface.proofs.Basics.PutLaws.{put-same, put-other}
+use Rattle.interface.proofs.Tables.TableLaws.{length-listed, word-listed, shown-tables}
+use Rattle.objects.specs.Records.{Sized, fiveWords}
 
 -- records end where the object table does
 pub record RecordsEnd (objects : ℕ → ℕ → ℕ) : Type 0 where
@@ -222,13 +220,3 @@ two-words kind first = short-words (kind ∷ first ∷ []) 3
 
 pub four-words : (kind first second third : ℕ) → word (fiveWords kind first second third 0) ≡ word (kind ∷ first ∷ second ∷ third ∷ [])
 four-words kind first second third = short-words (kind ∷ first ∷ second ∷ third ∷ []) 1
-
--- what the interface finds in the records of a state is what is found in their table
-module _ (caps : ℕ → Cap) (table : List ℕ) where
-  pub lowest-free-is : freeRecord (record { caps = caps; objects = objectAt table }) ≡ lowestFree table
-  unfolding freeRecord
-  lowest-free-is = refl
-
-  pub pd-count-is : pdsBelow (record { caps = caps; objects = objectAt table }) records ≡ pdCount table
-  unfolding pdsBelow
-  pd-count-is = refl

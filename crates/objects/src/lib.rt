@@ -5,7 +5,9 @@ ghost use Rattle.words.specs.Sizes.{records, recordWords};
 ghost use Rattle.descriptor.specs.Numbers.{numbered};
 ghost use Rattle.interface.specs.Basics.{word, put};
 ghost use Rattle.interface.specs.Places.{kindWord, countWord, greatestOf, greatest, objectAt, recordTable};
-ghost use Rattle.objects.specs.Records.{Sized, lowestFree, pdCount, fiveWords};
+ghost use Rattle.interface.specs.Damage.{pdsBelow};
+ghost use Rattle.interface.specs.Creations.{freeRecord};
+ghost use Rattle.objects.specs.Records.{Sized, recordsIn, fiveWords};
 use descriptor::FoundObject;
 use descriptor::ObjectNumber;
 use words::sizes;
@@ -115,7 +117,7 @@ pub fn set_count(table: &mut [u32], number: ObjectNumber, value: u32)
 // The lowest free record, if one is free.
 pub fn free_record(table: &[u32]) -> FoundObject
     requires { ⌜ Sized (now table) ⌝ }
-    ensures { λ r. ⌜ r ≡ numbered (lowestFree (now (table .entry))) ⌝ }
+    ensures { λ r. ⌜ r ≡ numbered (freeRecord (recordsIn (now (table .entry)))) ⌝ }
 {
     let mut number = 0u32;
     while number < sizes::RECORDS {
@@ -131,7 +133,7 @@ pub fn free_record(table: &[u32]) -> FoundObject
 // The number of PDs.
 pub fn count_pds(table: &[u32]) -> u32
     requires { ⌜ Sized (now table) ⌝ }
-    ensures { λ r. ⌜ r ≡ pdCount (now (table .entry)) ⌝ }
+    ensures { λ r. ⌜ r ≡ pdsBelow (recordsIn (now (table .entry))) records ⌝ }
 {
     let mut count = 0u32;
     let mut number = 0u32;

@@ -13,9 +13,9 @@ use Rattle.words.specs.Sizes.{places, placeWords}
 use Rattle.interface.specs.Basics.{if_then_else_, word, put}
 use Rattle.interface.specs.Places.{Cap, nothing, placeTableWords, capAt, capWords, capTable}
 use Rattle.interface.specs.Effects.{fills, handed, givenCaps}
-use Rattle.interface.proofs.BoolLaws.{cases, either-way}
-use Rattle.interface.proofs.PutLaws.{put-same, put-other}
-use Rattle.interface.proofs.TableLaws.{length-listed, word-listed, shown-cap}
+use Rattle.interface.proofs.Basics.BoolLaws.{cases, either-way}
+use Rattle.interface.proofs.Basics.PutLaws.{put-same, put-other}
+use Rattle.interface.proofs.Tables.TableLaws.{length-listed, word-listed, shown-cap}
 use Rattle.places.specs.Table.{Sized}
 
 -- capabilities that end where the places do

@@ -14,7 +14,7 @@ use Rattle.descriptor.specs.Numbers.{linkOf}
 use Rattle.interface.specs.Basics.{put}
 use Rattle.interface.specs.Places.{Cap, live, capAt, capTable}
 use Rattle.interface.specs.Effects.{fills}
-use Rattle.interface.proofs.BoolLaws.{each-of-four}
+use Rattle.interface.proofs.Basics.BoolLaws.{each-of-four}
 use Rattle.places.specs.Table.{Sized, Given}
 use Rattle.places.proofs.CapTableLaws.{cap-table-back}
 

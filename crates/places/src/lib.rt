@@ -10,6 +10,11 @@ use descriptor::Place;
 use words::permissions;
 use words::sizes;
 
+// The domains of the hypervisor and of the root.
+pub const HYPERVISOR: u32 = 0;
+
+pub const ROOT: u32 = 1;
+
 // Whether a capability has permissions.
 pub fn is_live(cap: Cap) -> bool
     ensures { λ r. ⌜ r ≡ live cap ⌝ }

@@ -8,7 +8,7 @@ use lib.ListN.{length, take, drop, getD, length-drop, length-append, drop-of-len
 use lib.Seq.{drop-cons, drop-drop, length-take-le, take-at, take-add}
 use borrow.Author.Tests.{eq-eqb, ne-eqb, lt-ltb, le-ltb}
 use Rattle.interface.specs.Journal.{bodyBytes, Beginning, empty, of-no-kind, cut-off, whole, beginning}
-use Rattle.interface.proofs.JournalLaws.{IsRecord, whole-begins, NoRecord}
+use Rattle.interface.proofs.Journal.JournalLaws.{IsRecord, whole-begins, NoRecord}
 use Rattle.playback.specs.declared.Found.the-variants.{Nothing, Unknown, Short, Whole}
 use Rattle.playback.specs.Playing.{foundOf, foundIn, isWhole}
 

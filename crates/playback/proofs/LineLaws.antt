@@ -18,7 +18,7 @@ use Rattle.interface.specs.History.{hypercalls}
 use Rattle.interface.specs.Demand.{tablesAfter, tablesAfterAll}
 use Rattle.interface.specs.Journal.{recordedCall, done, ended, spelled, spelledLines, Beginning, empty, of-no-kind, cut-off, whole, beginning, linesFrom, stopLines}
 use Rattle.interface.specs.Journal.{Line as JournalLine}
-use Rattle.interface.proofs.JournalLaws.{spelled-append}
+use Rattle.interface.proofs.Journal.JournalLaws.{spelled-append}
 use Rattle.journal.specs.declared.lines.Line.{Line}
 use Rattle.journal.specs.Texts.{lineOf, lineBytes, written, fitting, Wrote}
 use Rattle.journal.proofs.TextLaws.{wrote-then}

@@ -12,7 +12,7 @@ use Rattle.interface.specs.Places.{Tables}
 use Rattle.interface.specs.Verdicts.{Call, CALL}
 use Rattle.interface.specs.Journal.{bodyWord, recordedCall}
 use Rattle.interface.specs.Outcomes.{callOf, Outcome, outcome, Answered, answered}
-use Rattle.interface.proofs.TableLaws.{length-listed}
+use Rattle.interface.proofs.Tables.TableLaws.{length-listed}
 use Rattle.kernel.proofs.AnswerLaws.{answers}
 
 -- a CALL's recorded blocks have their length

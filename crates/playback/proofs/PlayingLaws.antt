@@ -20,9 +20,9 @@ use Rattle.interface.specs.History.{hypercalls}
 use Rattle.interface.specs.Demand.{LentOut, tablesAfterAll, historyOf}
 use Rattle.interface.specs.Outcomes.{Booted}
 use Rattle.interface.specs.Journal.{recordedCall, Line, ended, spelledLines, beginning, Contents, contentsFrom, contents, recorded, linesFrom, lastLines, replayFrom, replay}
-use Rattle.interface.proofs.BoolLaws.{cases}
-use Rattle.interface.proofs.DemandLaws.{demand-3}
-use Rattle.interface.proofs.JournalLaws.{IsRecord, NoRecord, none-read, parts-read, record-added, tables-append, lines-append, length-lines, spelled-append, parts-in-turn, replay-none}
+use Rattle.interface.proofs.Basics.BoolLaws.{cases}
+use Rattle.interface.proofs.History.DemandLaws.{demand-3}
+use Rattle.interface.proofs.Journal.JournalLaws.{IsRecord, NoRecord, none-read, parts-read, record-added, tables-append, lines-append, length-lines, spelled-append, parts-in-turn, replay-none}
 use Rattle.journal.specs.Texts.{lineBytes, Wrote}
 use Rattle.journal.proofs.TextLaws.{wrote-then}
 use Rattle.playback.specs.Playing.{foundIn, isWhole, stopOf, RoomForEach, Plays, Stops, Replays}

@@ -73,7 +73,7 @@ pub fn play(kind: u8, body: &[u8], places: &mut [u32], objects: &mut [u32]) -> R
     let fourth = records::body_word(body, 4);
     let fifth = records::body_word(body, 5);
     let sixth = records::body_word(body, 6);
-    if kind == records::CALL {
+    if kind as u32 == kernel::CALL {
         records::source(body, &mut source);
         records::target(body, &mut target);
         return kernel::hypercall(

@@ -14,10 +14,10 @@ use Rattle.interface.specs.Basics.{word}
 use Rattle.interface.specs.Places.{Cap, State, PT, ecWord, domainWord, cpuWord, callBit, objectPlace, permitted, capAt, objectAt, placeTable, objectTable, tables, view}
 use Rattle.interface.specs.Damage.{isEc}
 use Rattle.interface.specs.Effects.{run}
-use Rattle.interface.specs.Verdicts.{Call, Verdict, refuse, grant, require_else_then_, blockOf}
+use Rattle.interface.specs.Verdicts.{Call, Verdict, refuse, deliver, require_else_then_, blockOf}
 use Rattle.interface.specs.Message.{payloadFits, transfer, Moved}
 use Rattle.interface.specs.PortalCalls.{portalCall}
-use Rattle.interface.proofs.SoundFacts.{portal-ec, permitted-kind, ec-small, home, ec-home}
+use Rattle.interface.proofs.Sound.SoundFacts.{portal-ec, permitted-kind, ec-small, home, ec-home}
 use Rattle.tree.specs.Walks.{placesOnly}
 use Rattle.transfer.specs.Turns.{Blocks, Transferred}
 use Rattle.transfer.proofs.UnseenLaws.{transferred-seen}
@@ -115,7 +115,7 @@ module _ {places objects source target : List ℕ} {caller selector place callee
         (require not (eqb callee caller) else ComTim then
         require eqb (objectAt objects callee cpuWord) (objectAt objects caller cpuWord) else BadCpu then
         require payloadFits (word source 0) else BadPar then
-        grant (moved .filled) (moved .effects) (moved .block))
+        deliver (moved .filled) (moved .effects) (moved .block))
     unfolding portalCall
     left is-caller is-selector is-source is-target =
         rw (
@@ -157,7 +157,7 @@ module _ {places objects source target : List ℕ} {caller selector place callee
           Transferred places after block (transfer (placesOnly places) sender receiver source target) count →
           Answers places objects source target caller selector after block (Success count)
       carries {sender} {receiver} {count} {after} {block} fits is-sender is-receiver done c is-caller is-selector is-source is-target =
-          let granted : portalCall s c ≡ grant (moved c .filled) (moved c .effects) (moved c .block) =
+          let granted : portalCall s c ≡ deliver (moved c .filled) (moved c .effects) (moved c .block) =
           left c is-caller is-selector is-source is-target ∙
           rw (ne-eqb callee caller apart, eq-eqb (objectAt objects callee cpuWord) (objectAt objects caller cpuWord) one-cpu, fits) in
           let sent = subst (λ (n : ℕ). Transferred places after block (transfer (placesOnly places) n receiver source target) count) is-sender done in

@@ -67,12 +67,12 @@ module _ (s : State) (c : Call) (small : c .second ≤ 1) where
   unfolding revoke
   malformed-verdict e = rw (le-leb (c .second) 1 small, e)
 
-  null-verdict : reading (c .first) ≡ Null → revoke s c ≡ grant 0 [] (c .target)
+  null-verdict : reading (c .first) ≡ Null → revoke s c ≡ grant 0 []
   unfolding revoke
   null-verdict e = rw (le-leb (c .second) 1 small, e)
 
   good-verdict : (range : Range) → reading (c .first) ≡ Good range →
-      revoke s c ≡ grant 0 (cut (range .mask) (placeOf (callerDomain s c) (range .space) (range .base)) (2 ^ range .order) (eqb (c .second) 1) ∷ []) (c .target)
+      revoke s c ≡ grant 0 (cut (range .mask) (placeOf (callerDomain s c) (range .space) (range .base)) (2 ^ range .order) (eqb (c .second) 1) ∷ [])
   unfolding revoke
   good-verdict range e = rw (le-leb (c .second) 1 small, e)
 

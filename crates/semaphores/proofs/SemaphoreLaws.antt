@@ -11,7 +11,7 @@ use Rattle.words.specs.Fields.{greatestWord}
 use Rattle.words.specs.Sizes.{records}
 use Rattle.descriptor.specs.declared.Reply.{Reply}
 use Rattle.descriptor.specs.declared.Reply.the-variants.{Success, ComTim, BadCap, BadPar}
-use Rattle.interface.specs.Basics.{if_then_else_, put}
+use Rattle.interface.specs.Basics.{if_then_else_, put, putFrom}
 use Rattle.interface.specs.Places.{Cap, SM, domainWord, countWord, objectPlace, permitted, capAt, objectAt, recordTable, tables, view}
 use Rattle.interface.specs.Effects.{count, act, run}
 use Rattle.interface.specs.Verdicts.{Call, Verdict, grant, require_else_then_}
@@ -67,10 +67,10 @@ module _ {places objects : List ℕ} {caller selector operation place number val
   -- what is left of the rule
   module _ (c : Call) where
     abbrev raise : Verdict
-    raise = require ltb value greatestWord else BadPar then grant 0 (count number (value + 1) ∷ []) (c .target)
+    raise = require ltb value greatestWord else BadPar then grant 0 (count number (value + 1) ∷ [])
 
     abbrev lower : Verdict
-    lower = require ltb 0 value else ComTim then grant 0 (count number (value - 1) ∷ []) (c .target)
+    lower = require ltb 0 value else ComTim then grant 0 (count number (value - 1) ∷ [])
 
     left : c .caller ≡ caller → c .first ≡ selector → c .second ≡ operation → smCtrl (view places objects) c ≡ (if eqb operation up then raise else lower)
     unfolding smCtrl
@@ -78,10 +78,10 @@ module _ {places objects : List ℕ} {caller selector operation place number val
         rw (is-caller, is-selector, is-operation, ← k .call .is-place, le-leb operation down (k .call .known), k .call .allowed, ← k .is-number, ← k .is-value)
 
     -- the store of a count
-    stores : {next : ℕ} {after : List ℕ} → smCtrl (view places objects) c ≡ grant 0 (count number next ∷ []) (c .target) →
+    stores : {next : ℕ} {after : List ℕ} → smCtrl (view places objects) c ≡ grant 0 (count number next ∷ []) →
         after ≡ recordTable (put (objectAt objects) number (put (objectAt objects number) countWord next)) →
         Runs smCtrl c (tables places objects) (tables places after) (Success 0)
-    unfolding act run
+    unfolding act run putFrom
     stores granted stored = granted-runs (k .call .called) granted (sym (places-kept (k .call .called))) stored
 
   -- up, where the count is the greatest word, and below

@@ -13,7 +13,7 @@ use Rattle.descriptor.specs.declared.Fault.the-variants.{NoFault, Lengths, AtRe
 use Rattle.interface.specs.Basics.{allBelow}
 use Rattle.interface.specs.Places.{State, Tables, sized, shown}
 use Rattle.interface.specs.Damage.{Rule, of-records, fixed-record, interrupt-rule, unnamed-rule, used-first, pdsBelow, pd-rule, hasPd, isEc, ec-rule, sc-rule, pt-rule, rulesOfDamage, firstFault, fault}
-use Rattle.interface.proofs.BelowLaws.{all-below-at}
+use Rattle.interface.proofs.Basics.BelowLaws.{all-below-at}
 use Rattle.soundness.specs.Keeping.{recordsIn, lowestFailing, firstRule, lastRule, ruleOf}
 use Rattle.soundness.proofs.KeepingLaws.{answered-yes}
 

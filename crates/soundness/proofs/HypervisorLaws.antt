@@ -11,11 +11,11 @@ use Rattle.interface.specs.Basics.{if_then_else_, allBelow}
 use Rattle.interface.specs.Places.{State, Tables, live, nothing, SM, kindWord, kindOf, shown}
 use Rattle.interface.specs.Boot.{hypervisor, cpus, rootPd, rootSc, bootRecord, hypervisorCap, bootCap, boot}
 use Rattle.interface.specs.Damage.{recordAsBoot, fixed-record, fixed-place, interrupt-rule, hasPd, null-place, parentless-place, live-place, shallow}
-use Rattle.interface.proofs.BoolLaws.{cases, both, or-left, asked}
-use Rattle.interface.proofs.BelowLaws.{all-below-at, all-below}
-use Rattle.interface.proofs.Soundness.{OfRecords, Sound, sound-facts}
-use Rattle.interface.proofs.PlaceFacts.{boot-cap, fixed-parentless, Lineage, LivePlace, live-facts, live-test}
-use Rattle.interface.proofs.BootLaws.{boot-sound}
+use Rattle.interface.proofs.Basics.BoolLaws.{cases, both, or-left, asked}
+use Rattle.interface.proofs.Basics.BelowLaws.{all-below-at, all-below}
+use Rattle.interface.proofs.Sound.Soundness.{OfRecords, Sound, sound-facts}
+use Rattle.interface.proofs.Sound.PlaceFacts.{boot-cap, fixed-parentless, Lineage, LivePlace, live-facts, live-test}
+use Rattle.interface.proofs.History.BootLaws.{boot-sound}
 use Rattle.soundness.specs.Keeping.{recordsIn, placesIn, recordKeeps, placeKeeps, Kept}
 use Rattle.soundness.proofs.KeepingLaws.{caps-apart, record-parts}
 

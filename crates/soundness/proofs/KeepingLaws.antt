@@ -11,9 +11,9 @@ use Rattle.words.specs.Sizes.{stride, places, records}
 use Rattle.interface.specs.Basics.{allBelow}
 use Rattle.interface.specs.Places.{Cap, State, Tables, nothing, placeTableWords, objectTableWords, sized, shown}
 use Rattle.interface.specs.Damage.{fixed-record, fixed-place, interrupt-rule, unnamed-rule, used-first, pdsBelow, pd-rule, hasPd, isEc, ec-rule, sc-rule, pt-rule, null-place, live-place, shallow, soundState, sound}
-use Rattle.interface.proofs.BoolLaws.{cases, not-both, and-left, and-right, both, same-test, each-of-four}
-use Rattle.interface.proofs.BelowLaws.{all-below-at, all-below}
-use Rattle.interface.proofs.Soundness.{OfRecords, OfPlaces, sound-facts, facts-sound}
+use Rattle.interface.proofs.Basics.BoolLaws.{cases, not-both, and-left, and-right, both, same-test, each-of-four}
+use Rattle.interface.proofs.Basics.BelowLaws.{all-below-at, all-below}
+use Rattle.interface.proofs.Sound.Soundness.{OfRecords, OfPlaces, sound-facts, facts-sound}
 use Rattle.soundness.specs.Keeping.{recordsIn, placesIn, recordKeeps, placeKeeps, Numbered, Kept}
 
 -- a test that a call answered, by what the code made of the answer

@@ -7,8 +7,8 @@ use native.Mathlib.Omega.{arith}
 use lib.Dec.{ltb}
 use borrow.Author.Tests.{ltb-true, ltb-false, le-ltb, not-true, not-false}
 use Rattle.interface.specs.Basics.{allBelow, anyBelow, countBelow, lowest}
-use Rattle.interface.proofs.BoolLaws.{cases, not-both, and-left, and-right, both}
-use Rattle.interface.proofs.BelowLaws.{all-below-at, all-below, lowest-holds, below-lowest}
+use Rattle.interface.proofs.Basics.BoolLaws.{cases, not-both, and-left, and-right, both}
+use Rattle.interface.proofs.Basics.BelowLaws.{all-below-at, all-below, lowest-holds, below-lowest}
 use Rattle.soundness.specs.Keeping.{lowestFailing}
 
 module _ (test : ℕ → Bool) where

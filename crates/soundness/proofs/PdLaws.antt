@@ -12,11 +12,11 @@ use Rattle.interface.specs.Basics.{if_then_else_, anyBelow, countBelow}
 use Rattle.interface.specs.Places.{Cap, State, objectAt, PD, domainWord, kindOf}
 use Rattle.interface.specs.Boot.{hypervisor}
 use Rattle.interface.specs.Damage.{pdsBelow, pd-rule, hasPd, between1}
-use Rattle.interface.proofs.BoolLaws.{and-left, and-right, both, same-test}
-use Rattle.interface.proofs.BelowLaws.{all-below-at, any-below-at, count-below-past}
-use Rattle.interface.proofs.PlaceFacts.{pd-numbered}
-use Rattle.interface.proofs.Soundness.{OfRecords}
-use Rattle.interface.proofs.SoundFacts.{has-pd}
+use Rattle.interface.proofs.Basics.BoolLaws.{and-left, and-right, both, same-test}
+use Rattle.interface.proofs.Basics.BelowLaws.{all-below-at, any-below-at, count-below-past}
+use Rattle.interface.proofs.Sound.PlaceFacts.{pd-numbered}
+use Rattle.interface.proofs.Sound.Soundness.{OfRecords}
+use Rattle.interface.proofs.Sound.SoundFacts.{has-pd}
 use Rattle.soundness.specs.Keeping.{recordsIn, Numbered}
 use Rattle.soundness.proofs.LoopLaws.{count-below-small, count-below-reached, any-below-more}
 

@@ -20,9 +20,9 @@ use Rattle.interface.specs.Places.{Cap, State, Tables, live, nothing, parentles
 use Rattle.interface.specs.Boot.{hypervisor, cpus, rootPd, bootRecord, hypervisorCap, bootCap}
 use Rattle.interface.specs.Damage.{between1, sameCap, fixed-place, hasPd, null-place, isResource, live-place, shallow}
 use Rattle.interface.specs.Basics.{if_then_else_, allBelow}
-use Rattle.interface.proofs.BelowLaws.{all-below-at}
-use Rattle.interface.proofs.BoolLaws.{cases, and-right, both, same-test, or-none-left, or-none-right}
-use Rattle.interface.proofs.PlaceFacts.{same-cap, some-live, more-live}
+use Rattle.interface.proofs.Basics.BelowLaws.{all-below-at}
+use Rattle.interface.proofs.Basics.BoolLaws.{cases, and-right, both, same-test, or-none-left, or-none-right}
+use Rattle.interface.proofs.Sound.PlaceFacts.{same-cap, some-live, more-live}
 use Rattle.soundness.specs.Keeping.{parentFits, lineageKeeps, placeKeeps, Numbered, Kept, Around}
 use Rattle.soundness.proofs.PdLaws.{home-counted}
 

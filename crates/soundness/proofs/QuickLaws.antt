@@ -19,9 +19,9 @@ use Rattle.descriptor.proofs.DescriptorLaws.{linked-inside}
 use Rattle.interface.specs.Places.{Cap, State, Tables, live, nothing, free, capAt, shown, kindOf, greatestOf, greatest}
 use Rattle.interface.specs.Boot.{hypervisor}
 use Rattle.interface.specs.Damage.{sameCap, fixed-place, hasPd, null-place, isResource, parentless-place, live-place, shallow}
-use Rattle.interface.proofs.BoolLaws.{cases, and-left, and-right, same-test, each-of-four}
-use Rattle.interface.proofs.BelowLaws.{all-below-at, all-below}
-use Rattle.interface.proofs.PlaceFacts.{same-cap, null-cap, null-test, depth-small, ChildOf, child-facts, child-test, Lineage, no-parent, child, LivePlace, live-facts, live-test}
+use Rattle.interface.proofs.Basics.BoolLaws.{cases, and-left, and-right, same-test, each-of-four}
+use Rattle.interface.proofs.Basics.BelowLaws.{all-below-at, all-below}
+use Rattle.interface.proofs.Sound.PlaceFacts.{same-cap, null-cap, null-test, depth-small, ChildOf, child-facts, child-test, Lineage, no-parent, child, LivePlace, live-facts, live-test}
 use Rattle.soundness.specs.Keeping.{placesIn, placeKeeps, parentFits, quickKeeps, group, blank, Kept}
 use Rattle.soundness.proofs.PlaceTests.{link-before, link-past, past-hypervisor, fixed-past, parent-past}
 use Rattle.soundness.proofs.KeepingLaws.{place-parts}

@@ -10,7 +10,7 @@ use Rattle.interface.specs.Basics.{if_then_else_, allBelow}
 use Rattle.interface.specs.Places.{State, free, PD, EC, SC, PT, SM, kindOf, namedWords, domainWord, cpuWord, eventBaseWord, ecWord, priorityWord, quantumWord}
 use Rattle.interface.specs.Boot.{root, cpus, rootPd, rootEc, rootSc, noEc, rootPriority, rootQuantum, bootRecord}
 use Rattle.interface.specs.Damage.{fixed-record, interrupt-rule, unnamed-rule, used-first, pdsBelow, pd-rule, hasPd, isEc, ec-rule, between1, greatestPriority, greatestQuantum, sc-rule, pt-rule}
-use Rattle.interface.proofs.BoolLaws.{cases, not-both, and-left, and-right, or-none-left, or-none-right, not-asked}
+use Rattle.interface.proofs.Basics.BoolLaws.{cases, not-both, and-left, and-right, or-none-left, or-none-right, not-asked}
 use Rattle.soundness.specs.Keeping.{hasWords, recordKeeps}
 
 module _ (s : State) (r : ℕ) where

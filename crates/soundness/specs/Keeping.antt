@@ -8,14 +8,12 @@ use lib.ListN.{length, getD}
 use Rattle.words.specs.Sizes.{object, stride, domainOf, spaceOf, places, placeWords, records, recordWords, greatestDepth}
 use Rattle.words.specs.Permissions.{within}
 use Rattle.interface.specs.Basics.{if_then_else_, word, allBelow, lowest}
-use Rattle.interface.specs.Places.{Cap, State, Tables, live, nothing, kindOf, greatestOf, placeTableWords, objectTableWords, capAt, objectAt, shown}
+use Rattle.interface.specs.Places.{Cap, State, Tables, live, nothing, kindOf, greatestOf, placeTableWords, objectTableWords, capAt, shown}
 use Rattle.interface.specs.Boot.{hypervisor}
 use Rattle.interface.specs.Damage.{Rule, sameCap, of-records, fixed-record, fixed-place, interrupt-rule, unnamed-rule, used-first, pdsBelow, pd-rule, hasPd, ec-rule, sc-rule, pt-rule, null-place, parentless-place, live-place, shallow, rulesOfDamage}
+pub use Rattle.objects.specs.Records.{recordsIn}
 
--- what an object table alone shows, and what a place table alone shows
-abbrev pub recordsIn : List ℕ → State
-recordsIn table = record { caps = λ p. nothing; objects = objectAt table }
-
+-- what a place table alone shows
 abbrev pub placesIn : List ℕ → State
 placesIn table = record { caps = capAt table; objects = λ r i. 0 }
 

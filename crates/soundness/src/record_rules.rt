@@ -54,10 +54,10 @@ pub fn fixed_keeps(objects: &[u32], number: u32) -> bool
         return has_words(objects, number, objects::SC, boot::NO_EC, 0, 0);
     }
     if number == boot::ROOT_PD {
-        return has_words(objects, number, objects::PD, boot::ROOT, 0, 0);
+        return has_words(objects, number, objects::PD, places::ROOT, 0, 0);
     }
     if number == boot::ROOT_EC {
-        return has_words(objects, number, objects::EC, boot::ROOT, 0, 0);
+        return has_words(objects, number, objects::EC, places::ROOT, 0, 0);
     }
     if number == boot::ROOT_SC {
         return has_words(

@@ -15,8 +15,8 @@ use Rattle.interface.specs.Basics.{if_then_else_, listed}
 use Rattle.interface.specs.Places.{State, capAt, capTable}
 use Rattle.interface.specs.Effects.{Effect, give, fills, givenCaps, act, run, fillsOne, filled}
 use Rattle.interface.specs.Message.{smallerOrder, raisedBase, delegations}
-use Rattle.interface.proofs.BoolLaws.{either-way}
-use Rattle.interface.proofs.TurnLaws.{run-append, gives}
+use Rattle.interface.proofs.Basics.BoolLaws.{either-way}
+use Rattle.interface.proofs.Tables.TurnLaws.{run-append, gives}
 use Rattle.places.specs.Table.{Sized, Given}
 use Rattle.places.proofs.CapTableLaws.{length-cap-table, cap-at-table, cap-table-back, cap-at-end, given-end}
 use Rattle.tree.specs.Walks.{placesOnly}

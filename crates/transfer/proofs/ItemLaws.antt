@@ -23,10 +23,10 @@ use Rattle.descriptor.specs.Descriptors.{kept, Proper}
 use Rattle.descriptor.proofs.DescriptorLaws.{reading-kept, matched-good, good-proper, proper-end}
 use Rattle.interface.specs.Places.{Cap, State, capAt}
 use Rattle.interface.specs.Boot.{hypervisor, root}
-use Rattle.interface.specs.Descriptors.{describe, reading, matched}
+use Rattle.interface.specs.RangeDescriptors.{describe, reading, matched}
 use Rattle.interface.specs.Effects.{filled}
 use Rattle.interface.specs.Message.{receivedWord, delegateBit, hypervisorBit, hotspotField, Item, sourceDomain, smallerOrder, raisedBase, delegations, delegateItem, senderPlace, translatedBase, common, translates, translateItem}
-use Rattle.interface.proofs.BoolLaws.{cases}
+use Rattle.interface.proofs.Basics.BoolLaws.{cases}
 use Rattle.places.specs.Table.{Sized}
 use Rattle.tree.specs.Walks.{placesOnly}
 use Rattle.transfer.specs.declared.Outcome.{Outcome}

@@ -9,11 +9,11 @@ use Rattle.words.specs.Sizes.{places, spaceOf}
 use Rattle.interface.specs.Basics.{put}
 use Rattle.interface.specs.Places.{Cap, State, live}
 use Rattle.interface.specs.Effects.{fills, handed, givenCaps}
-use Rattle.interface.proofs.BoolLaws.{cases, not-both}
-use Rattle.interface.proofs.PutLaws.{put-same, put-other}
-use Rattle.interface.proofs.NoteLaws.{fills-source, fills-null}
-use Rattle.interface.proofs.Soundness.{Sound}
-use Rattle.interface.proofs.PlaceFacts.{null-cap, Lineage, no-parent, child, live-facts}
+use Rattle.interface.proofs.Basics.BoolLaws.{cases, not-both}
+use Rattle.interface.proofs.Basics.PutLaws.{put-same, put-other}
+use Rattle.interface.proofs.History.NoteLaws.{fills-source, fills-null}
+use Rattle.interface.proofs.Sound.Soundness.{Sound}
+use Rattle.interface.proofs.Sound.PlaceFacts.{null-cap, Lineage, no-parent, child, live-facts}
 use Rattle.tree.proofs.LinkLaws.{sound-linked}
 use Rattle.transfer.specs.Typed.{LiveLinks}
 

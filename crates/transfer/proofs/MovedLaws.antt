@@ -13,7 +13,7 @@ use Rattle.interface.specs.Basics.{word}
 use Rattle.interface.specs.Places.{State, capAt, capTable}
 use Rattle.interface.specs.Effects.{run, filled}
 use Rattle.interface.specs.Message.{headWords, untypedCount, typedCount, translateWindow, delegateWindow, itemWords, descriptorAt, secondAt, delegateBit, receivedWord, Item, Moved, itemOf, untypedCopied, carried, transfer}
-use Rattle.interface.proofs.TurnLaws.{run-append}
+use Rattle.interface.proofs.Tables.TurnLaws.{run-append}
 use Rattle.places.specs.Table.{Sized}
 use Rattle.places.proofs.CapTableLaws.{length-cap-table, cap-table-back}
 use Rattle.tree.specs.Walks.{placesOnly}

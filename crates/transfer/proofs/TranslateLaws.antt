@@ -28,8 +28,8 @@ use Rattle.interface.specs.Basics.{if_then_else_, allBelow}
 use Rattle.interface.specs.Places.{Cap, capAt}
 use Rattle.interface.specs.Effects.{chain, ancestors, among}
 use Rattle.interface.specs.Message.{nearest, common, inside, senderPlace, ancestorAt, translatedBase, translates, translateItem}
-use Rattle.interface.proofs.BoolLaws.{cases, not-both, and-left, and-right, both, each-of-four}
-use Rattle.interface.proofs.BelowLaws.{all-below-at, all-below, below-suc}
+use Rattle.interface.proofs.Basics.BoolLaws.{cases, not-both, and-left, and-right, both, each-of-four}
+use Rattle.interface.proofs.Basics.BelowLaws.{all-below-at, all-below, below-suc}
 use Rattle.places.specs.Table.{Sized}
 use Rattle.tree.specs.Walks.{Linked, firstAmong, placesOnly}
 use Rattle.tree.proofs.LinkLaws.{nearest-first-among}

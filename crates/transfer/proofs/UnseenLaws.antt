@@ -9,10 +9,10 @@ use Rattle.descriptor.specs.declared.Match.{Match}
 use Rattle.descriptor.specs.declared.Match.the-variants.{Both, Neither}
 use Rattle.interface.specs.Basics.{if_then_else_, word, listed}
 use Rattle.interface.specs.Places.{State}
-use Rattle.interface.specs.Descriptors.{reading, matched}
+use Rattle.interface.specs.RangeDescriptors.{reading, matched}
 use Rattle.interface.specs.Effects.{Effect, fills, act, run, filled}
 use Rattle.interface.specs.Message.{typedCount, translateWindow, delegateWindow, descriptorAt, secondAt, delegateBit, hotspotField, Item, sourceDomain, smallerOrder, raisedBase, delegateItem, translateItem, itemOf, carried, transfer}
-use Rattle.interface.proofs.TurnLaws.{run-append, gives}
+use Rattle.interface.proofs.Tables.TurnLaws.{run-append, gives}
 use Rattle.tree.specs.Walks.{placesOnly}
 use Rattle.transfer.specs.Turns.{Transferred}
 use Rattle.transfer.proofs.DelegateLaws.{run-more, filled-more}

@@ -10,7 +10,7 @@ use Rattle.descriptor.specs.declared.Range.{Range}
 use Rattle.descriptor.specs.Descriptors.{Proper}
 use Rattle.interface.specs.Basics.{if_then_else_}
 use Rattle.interface.specs.Places.{Cap, State, live, capAt, capTable}
-use Rattle.interface.specs.Descriptors.{reading, matched}
+use Rattle.interface.specs.RangeDescriptors.{reading, matched}
 use Rattle.interface.specs.Effects.{Effect, run, filled}
 use Rattle.interface.specs.Message.{delegateBit, receivedWord, Item, smallerOrder, raisedBase, delegateItem, translateItem}
 use Rattle.places.specs.Table.{Given}

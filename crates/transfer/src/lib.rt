@@ -41,11 +41,6 @@ const PAYLOAD_WORDS: u32 = 60;
 
 const ITEM_WORDS: usize = 2;
 
-// The hypervisor's domain and the root's.
-const HYPERVISOR: u32 = 0;
-
-const ROOT: u32 = 1;
-
 // What one typed item comes to: the descriptor that the receiver is given, and how many places were filled.
 struct Outcome {
     word: u32,
@@ -245,8 +240,8 @@ pub fn translate(table: &[u32], sender: u32, receiver: u32, item: Range, window:
 fn source_domain(sender: u32, second: u32) -> u32
     ensures { λ r. ⌜ (r ≡ sourceDomain sender second) × (r ≤ sender) ⌝ }
 {
-    if ((second >> 11) % 2 == 1) & (sender == ROOT) {
-        return HYPERVISOR;
+    if ((second >> 11) % 2 == 1) & (sender == places::ROOT) {
+        return places::HYPERVISOR;
     }
     sender
 }

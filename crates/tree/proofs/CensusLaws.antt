@@ -22,7 +22,7 @@ use Rattle.interface.specs.Basics.{gather}
 use Rattle.interface.specs.Places.{Cap, live, capAt}
 use Rattle.interface.specs.Effects.{below}
 use Rattle.interface.specs.Census.{descendants, counted}
-use Rattle.interface.proofs.BoolLaws.{cases}
+use Rattle.interface.proofs.Basics.BoolLaws.{cases}
 use Rattle.tree.specs.Walks.{placesOnly}
 
 -- what the next number adds to those that a test holds of, and that they are no fewer further on

@@ -11,9 +11,9 @@ use Rattle.interface.specs.Places.{Cap, State, live}
 use Rattle.interface.specs.Boot.{hypervisor}
 use Rattle.interface.specs.Effects.{ancestors, among}
 use Rattle.interface.specs.Message.{firstIn, nearest}
-use Rattle.interface.proofs.BoolLaws.{cases, and-left, and-right, both, same-test}
-use Rattle.interface.proofs.Soundness.{Sound}
-use Rattle.interface.proofs.PlaceFacts.{null-cap, ChildOf, Lineage, no-parent, child, live-facts}
+use Rattle.interface.proofs.Basics.BoolLaws.{cases, and-left, and-right, both, same-test}
+use Rattle.interface.proofs.Sound.Soundness.{Sound}
+use Rattle.interface.proofs.Sound.PlaceFacts.{null-cap, ChildOf, Lineage, no-parent, child, live-facts}
 use Rattle.tree.specs.Walks.{Linked, firstAmong}
 
 module _ (s : State) (k : Sound s) (p : ℕ) (l : p < places) where

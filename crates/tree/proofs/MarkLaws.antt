@@ -16,9 +16,9 @@ use Rattle.words.specs.Permissions.{permits}
 use Rattle.interface.specs.Basics.{if_then_else_, word, listed}
 use Rattle.interface.specs.Places.{Cap}
 use Rattle.interface.specs.Effects.{among, below}
-use Rattle.interface.proofs.BoolLaws.{cases}
-use Rattle.interface.proofs.BelowLaws.{below-suc}
-use Rattle.interface.proofs.TableLaws.{length-listed, word-listed}
+use Rattle.interface.proofs.Basics.BoolLaws.{cases}
+use Rattle.interface.proofs.Basics.BelowLaws.{below-suc}
+use Rattle.interface.proofs.Tables.TableLaws.{length-listed, word-listed}
 use Rattle.tree.specs.Walks.{cutAt, packed, marksOf, markAt, Marked}
 
 module _ (test : ℕ → Bool) where

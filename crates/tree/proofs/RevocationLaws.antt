@@ -14,10 +14,10 @@ use Rattle.words.specs.Permissions.{permits, revoked}
 use Rattle.interface.specs.Basics.{if_then_else_, word, put}
 use Rattle.interface.specs.Places.{Cap, nothing, capAt, capTable}
 use Rattle.interface.specs.Effects.{stripped, cutCaps}
-use Rattle.interface.proofs.BoolLaws.{cases, and-left, and-right}
-use Rattle.interface.proofs.PutLaws.{put-same, put-other}
-use Rattle.interface.proofs.CutLaws.{stripped-none, stripped-some}
-use Rattle.interface.proofs.CutSound.{cut-kept, cut-stripped}
+use Rattle.interface.proofs.Basics.BoolLaws.{cases, and-left, and-right}
+use Rattle.interface.proofs.Basics.PutLaws.{put-same, put-other}
+use Rattle.interface.proofs.History.CutLaws.{stripped-none, stripped-some}
+use Rattle.interface.proofs.Sound.CutSound.{cut-kept, cut-stripped}
 use Rattle.places.specs.Table.{Sized}
 use Rattle.places.proofs.CapTableLaws.{length-cap-table, cap-table-same, cap-at-table-below, cap-table-back}
 use Rattle.tree.specs.Walks.{cutAt, marksOf, markAt, placesOnly, Stepped, skips, strips, passes}

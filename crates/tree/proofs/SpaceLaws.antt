@@ -10,8 +10,8 @@ use Rattle.words.specs.Sizes.{io, object, start, stride, spaceOf, places}
 use Rattle.interface.specs.Basics.{any}
 use Rattle.interface.specs.Places.{Cap}
 use Rattle.interface.specs.Effects.{ancestors, among, below}
-use Rattle.interface.proofs.BoolLaws.{cases, and-left, and-right}
-use Rattle.interface.proofs.CutSound.{ancestors-child, ancestors-none}
+use Rattle.interface.proofs.Basics.BoolLaws.{cases, and-left, and-right}
+use Rattle.interface.proofs.Sound.CutSound.{ancestors-child, ancestors-none}
 use Rattle.tree.specs.Walks.{Linked, InSpace, cutAt, packed}
 
 -- the places of a word of marks are of one space

@@ -15,8 +15,8 @@ use Rattle.descriptor.proofs.DescriptorLaws.{linked-out, linked-inside}
 use Rattle.interface.specs.Basics.{any}
 use Rattle.interface.specs.Places.{Cap}
 use Rattle.interface.specs.Effects.{ancestors, among, below}
-use Rattle.interface.proofs.BoolLaws.{cases}
-use Rattle.interface.proofs.CutSound.{ancestors-child, ancestors-none}
+use Rattle.interface.proofs.Basics.BoolLaws.{cases}
+use Rattle.interface.proofs.Sound.CutSound.{ancestors-child, ancestors-none}
 use Rattle.tree.specs.Walks.{Linked, firstAmong, cutAt}
 
 -- what a place holds, and the place that its parent word leads to

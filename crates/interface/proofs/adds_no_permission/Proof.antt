@@ -1,4 +1,4 @@
-use Rattle.interface.proofs.FilledLaws.{adds-no-permission}
+use Rattle.interface.proofs.Consequences.FilledLaws.{adds-no-permission}
 use Rattle.interface.proofs.adds_no_permission.Statement.{statement}
 use Rattle.interface.proofs.adds_no_permission.Tie as tie
 

@@ -1,4 +1,4 @@
-use Rattle.interface.proofs.ConsequenceLaws.{blocks-stay}
+use Rattle.interface.proofs.Consequences.ConsequenceLaws.{blocks-stay}
 use Rattle.interface.proofs.blocks_stay.Statement.{statement}
 use Rattle.interface.proofs.blocks_stay.Tie as tie
 

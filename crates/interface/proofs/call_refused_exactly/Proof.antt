@@ -1,4 +1,4 @@
-use Rattle.interface.proofs.RefusalLaws.{call-refused-exactly}
+use Rattle.interface.proofs.Refusals.RefusalLaws.{call-refused-exactly}
 use Rattle.interface.proofs.call_refused_exactly.Statement.{statement}
 use Rattle.interface.proofs.call_refused_exactly.Tie as tie
 

@@ -1,4 +1,4 @@
-use Rattle.interface.proofs.OtherRefusals.{census-refused-exactly}
+use Rattle.interface.proofs.Refusals.OtherRefusals.{census-refused-exactly}
 use Rattle.interface.proofs.census_refused_exactly.Statement.{statement}
 use Rattle.interface.proofs.census_refused_exactly.Tie as tie
 

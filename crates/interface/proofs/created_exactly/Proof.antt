@@ -1,4 +1,4 @@
-use Rattle.interface.proofs.CreatedLaws.{created-exactly}
+use Rattle.interface.proofs.Consequences.CreatedLaws.{created-exactly}
 use Rattle.interface.proofs.created_exactly.Statement.{statement}
 use Rattle.interface.proofs.created_exactly.Tie as tie
 

@@ -1,4 +1,4 @@
-use Rattle.interface.proofs.CreationRefusals.{creations-refused-exactly}
+use Rattle.interface.proofs.Refusals.CreationRefusals.{creations-refused-exactly}
 use Rattle.interface.proofs.creations_refused_exactly.Statement.{statement}
 use Rattle.interface.proofs.creations_refused_exactly.Tie as tie
 

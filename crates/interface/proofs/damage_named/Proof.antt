@@ -1,4 +1,4 @@
-use Rattle.interface.proofs.DamageReportLaws.{damage-named}
+use Rattle.interface.proofs.Consequences.DamageReportLaws.{damage-named}
 use Rattle.interface.proofs.damage_named.Statement.{statement}
 use Rattle.interface.proofs.damage_named.Tie as tie
 

@@ -1,4 +1,4 @@
-use Rattle.interface.proofs.ConsequenceLaws.{damaged-exactly}
+use Rattle.interface.proofs.Consequences.ConsequenceLaws.{damaged-exactly}
 use Rattle.interface.proofs.damaged_exactly.Statement.{statement}
 use Rattle.interface.proofs.damaged_exactly.Tie as tie
 

@@ -1,4 +1,4 @@
-use Rattle.interface.proofs.DeliveryLaws.{delivers-items}
+use Rattle.interface.proofs.Deliveries.DeliveryLaws.{delivers-items}
 use Rattle.interface.proofs.delivers_items.Statement.{statement}
 use Rattle.interface.proofs.delivers_items.Tie as tie
 

@@ -1,4 +1,4 @@
-use Rattle.interface.proofs.InitialRangeLaws.{delivers-range}
+use Rattle.interface.proofs.Deliveries.InitialRangeLaws.{delivers-range}
 use Rattle.interface.proofs.delivers_range.Statement.{statement}
 use Rattle.interface.proofs.delivers_range.Tie as tie
 

@@ -1,4 +1,4 @@
-use Rattle.interface.proofs.ReceivedLaws.{delivers-words}
+use Rattle.interface.proofs.Deliveries.ReceivedLaws.{delivers-words}
 use Rattle.interface.proofs.delivers_words.Statement.{statement}
 use Rattle.interface.proofs.delivers_words.Tie as tie
 

@@ -1,4 +1,4 @@
-use Rattle.interface.proofs.DemandLaws.{demand-3}
+use Rattle.interface.proofs.History.DemandLaws.{demand-3}
 use Rattle.interface.proofs.demand_3.Statement.{statement}
 use Rattle.interface.proofs.demand_3.Tie as tie
 

@@ -1,4 +1,4 @@
-use Rattle.interface.proofs.DispatchRefusals.{dispatch-refused-exactly}
+use Rattle.interface.proofs.Refusals.DispatchRefusals.{dispatch-refused-exactly}
 use Rattle.interface.proofs.dispatch_refused_exactly.Statement.{statement}
 use Rattle.interface.proofs.dispatch_refused_exactly.Tie as tie
 

@@ -1,4 +1,4 @@
-use Rattle.interface.proofs.Computed.{journal-example}
+use Rattle.interface.proofs.Examples.Computed.{journal-example}
 use Rattle.interface.proofs.journal_example.Statement.{statement}
 use Rattle.interface.proofs.journal_example.Tie as tie
 

@@ -1,4 +1,4 @@
-use Rattle.interface.proofs.Computed.{journal-stops}
+use Rattle.interface.proofs.Examples.Computed.{journal-stops}
 use Rattle.interface.proofs.journal_stops.Statement.{statement}
 use Rattle.interface.proofs.journal_stops.Tie as tie
 

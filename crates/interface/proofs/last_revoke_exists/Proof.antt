@@ -1,4 +1,4 @@
-use Rattle.interface.proofs.DemandLaws.{last-revoke-exists}
+use Rattle.interface.proofs.History.DemandLaws.{last-revoke-exists}
 use Rattle.interface.proofs.last_revoke_exists.Statement.{statement}
 use Rattle.interface.proofs.last_revoke_exists.Tie as tie
 

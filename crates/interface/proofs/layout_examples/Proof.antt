@@ -1,4 +1,4 @@
-use Rattle.interface.proofs.Computed.{layout-computed}
+use Rattle.interface.proofs.Examples.Computed.{layout-computed}
 use Rattle.interface.proofs.layout_examples.Statement.{statement}
 use Rattle.interface.proofs.layout_examples.Tie as tie
 

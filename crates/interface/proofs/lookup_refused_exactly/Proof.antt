@@ -1,4 +1,4 @@
-use Rattle.interface.proofs.OtherRefusals.{lookup-refused-exactly}
+use Rattle.interface.proofs.Refusals.OtherRefusals.{lookup-refused-exactly}
 use Rattle.interface.proofs.lookup_refused_exactly.Statement.{statement}
 use Rattle.interface.proofs.lookup_refused_exactly.Tie as tie
 

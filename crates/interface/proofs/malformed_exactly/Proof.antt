@@ -1,4 +1,4 @@
-use Rattle.interface.proofs.MalformedLaws.{malformed-exactly}
+use Rattle.interface.proofs.Refusals.MalformedLaws.{malformed-exactly}
 use Rattle.interface.proofs.malformed_exactly.Statement.{statement}
 use Rattle.interface.proofs.malformed_exactly.Tie as tie
 

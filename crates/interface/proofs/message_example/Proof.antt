@@ -1,4 +1,4 @@
-use Rattle.interface.proofs.Computed.{computed-message}
+use Rattle.interface.proofs.Examples.Computed.{computed-message}
 use Rattle.interface.proofs.message_example.Statement.{statement}
 use Rattle.interface.proofs.message_example.Tie as tie
 

@@ -1,4 +1,4 @@
-use Rattle.interface.proofs.LookupLaws.{nothing-is-nothing}
+use Rattle.interface.proofs.Consequences.LookupLaws.{nothing-is-nothing}
 use Rattle.interface.proofs.nothing_is_nothing.Statement.{statement}
 use Rattle.interface.proofs.nothing_is_nothing.Tie as tie
 

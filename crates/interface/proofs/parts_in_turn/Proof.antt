@@ -1,4 +1,4 @@
-use Rattle.interface.proofs.JournalLaws.{parts-in-turn}
+use Rattle.interface.proofs.Journal.JournalLaws.{parts-in-turn}
 use Rattle.interface.proofs.parts_in_turn.Statement.{statement}
 use Rattle.interface.proofs.parts_in_turn.Tie as tie
 

@@ -1,4 +1,4 @@
-use Rattle.interface.proofs.JournalLaws.{pieces-in-turn}
+use Rattle.interface.proofs.Journal.JournalLaws.{pieces-in-turn}
 use Rattle.interface.proofs.pieces_in_turn.Statement.{statement}
 use Rattle.interface.proofs.pieces_in_turn.Tie as tie
 

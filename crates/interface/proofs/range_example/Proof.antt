@@ -1,4 +1,4 @@
-use Rattle.interface.proofs.Computed.{computed-range}
+use Rattle.interface.proofs.Examples.Computed.{computed-range}
 use Rattle.interface.proofs.range_example.Statement.{statement}
 use Rattle.interface.proofs.range_example.Tie as tie
 

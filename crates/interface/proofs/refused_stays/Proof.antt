@@ -1,4 +1,4 @@
-use Rattle.interface.proofs.ConsequenceLaws.{refused-stays}
+use Rattle.interface.proofs.Consequences.ConsequenceLaws.{refused-stays}
 use Rattle.interface.proofs.refused_stays.Statement.{statement}
 use Rattle.interface.proofs.refused_stays.Tie as tie
 

@@ -1,4 +1,4 @@
-use Rattle.interface.proofs.OtherRefusals.{revoke-refused-exactly}
+use Rattle.interface.proofs.Refusals.OtherRefusals.{revoke-refused-exactly}
 use Rattle.interface.proofs.revoke_refused_exactly.Statement.{statement}
 use Rattle.interface.proofs.revoke_refused_exactly.Tie as tie
 

@@ -1,4 +1,4 @@
-use Rattle.interface.proofs.RevocationLaws.{revokes-exactly}
+use Rattle.interface.proofs.Consequences.RevokedLaws.{revokes-exactly}
 use Rattle.interface.proofs.revokes_exactly.Statement.{statement}
 use Rattle.interface.proofs.revokes_exactly.Tie as tie
 

@@ -1,4 +1,4 @@
-use Rattle.interface.proofs.OtherRefusals.{sm-ctrl-refused-exactly}
+use Rattle.interface.proofs.Refusals.OtherRefusals.{sm-ctrl-refused-exactly}
 use Rattle.interface.proofs.sm_ctrl_refused_exactly.Statement.{statement}
 use Rattle.interface.proofs.sm_ctrl_refused_exactly.Tie as tie
 

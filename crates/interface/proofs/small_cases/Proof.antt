@@ -1,4 +1,4 @@
-use Rattle.interface.proofs.SmallCasesComputed.{small-cases}
+use Rattle.interface.proofs.Examples.SmallCasesComputed.{small-cases}
 use Rattle.interface.proofs.small_cases.Statement.{statement}
 use Rattle.interface.proofs.small_cases.Tie as tie
 

@@ -1,4 +1,4 @@
-use Rattle.interface.proofs.ConsequenceLaws.{stays-sound}
+use Rattle.interface.proofs.Consequences.ConsequenceLaws.{stays-sound}
 use Rattle.interface.proofs.stays_sound.Statement.{statement}
 use Rattle.interface.proofs.stays_sound.Tie as tie
 

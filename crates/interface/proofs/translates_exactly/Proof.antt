@@ -1,4 +1,4 @@
-use Rattle.interface.proofs.TranslationLaws.{translates-exactly}
+use Rattle.interface.proofs.Deliveries.TranslationLaws.{translates-exactly}
 use Rattle.interface.proofs.translates_exactly.Statement.{statement}
 use Rattle.interface.proofs.translates_exactly.Tie as tie
 

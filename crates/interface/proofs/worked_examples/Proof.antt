@@ -1,4 +1,4 @@
-use Rattle.interface.proofs.Computed.{worked-examples}
+use Rattle.interface.proofs.Examples.Computed.{worked-examples}
 use Rattle.interface.proofs.worked_examples.Statement.{statement}
 use Rattle.interface.proofs.worked_examples.Tie as tie
 

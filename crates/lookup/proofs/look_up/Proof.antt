@@ -4,7 +4,7 @@ use denote.Ref.{now}
 use borrow.Author.Needs.{needs}
 use Rattle.descriptor.specs.Descriptors.{reading}
 use Rattle.descriptor.proofs.DescriptorLaws.{reading-kept, good-proper}
-use Rattle.interface.proofs.LentOutLaws.{permissions-small}
+use Rattle.interface.proofs.History.LentOutLaws.{permissions-small}
 use Rattle.capabilities.proofs.CallerLaws.{sized-places, called-sound}
 use Rattle.lookup.proofs.AnswerLaws.{null-answer, malformed-answer, good-answer}
 use Rattle.lookup.proofs.look_up.Statement.{statement}

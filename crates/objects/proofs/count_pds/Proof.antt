@@ -11,7 +11,8 @@ use borrow.Author.Tests.{eq-eqb, ne-eqb}
 use Rattle.words.specs.Sizes.{records}
 use Rattle.interface.specs.Basics.{countBelow}
 use Rattle.interface.specs.Places.{PD, kindWord, objectAt}
-use Rattle.objects.specs.Records.{pdCount}
+use Rattle.interface.specs.Damage.{pdsBelow}
+use Rattle.objects.specs.Records.{recordsIn}
 use Rattle.objects.proofs.CountingLaws.{count-more, count-same}
 use Rattle.objects.proofs.count_pds.Statement.{statement}
 use Rattle.objects.proofs.count_pds.Tie as tie
@@ -22,7 +23,8 @@ isPd table r = eqb (objectAt table r kindWord) PD
 
 -- what the loop's record adds to the count of the PDs before it
 module _ (table : List ℕ) (number count : ℕ) (so-far : count ≡ countBelow number (isPd table)) where
-  past : number ≡ records → count ≡ pdCount table
+  past : number ≡ records → count ≡ pdsBelow (recordsIn table) records
+  unfolding pdsBelow
   past e = rw e at so-far
 
   module _ {counted kind : ℕ} (is-counted : counted ≡ number) (is-kind : kind ≡ objectAt table counted kindWord) where

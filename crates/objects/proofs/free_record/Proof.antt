@@ -14,7 +14,8 @@ use Rattle.descriptor.specs.Numbers.{numbered}
 use Rattle.descriptor.proofs.DescriptorLaws.{numbered-so, numbered-beyond}
 use Rattle.interface.specs.Basics.{lowest}
 use Rattle.interface.specs.Places.{free, kindWord, objectAt}
-use Rattle.objects.specs.Records.{lowestFree}
+use Rattle.interface.specs.Creations.{freeRecord}
+use Rattle.objects.specs.Records.{recordsIn}
 use Rattle.objects.proofs.CountingLaws.{lowest-none, lowest-found}
 use Rattle.objects.proofs.free_record.Statement.{statement}
 use Rattle.objects.proofs.free_record.Tie as tie
@@ -25,11 +26,13 @@ isFree table r = eqb (objectAt table r kindWord) free
 
 -- what the loop's record tells where none before it is free
 module _ (table : List ℕ) (number : ℕ) (none : lowest number (isFree table) ≡ number) where
-  past : number ≡ records → Beyond ≡ numbered (lowestFree table)
-  past e = sym (numbered-beyond (lowestFree table) (omega (arith, rw e at none)))
+  past : number ≡ records → Beyond ≡ numbered (freeRecord (recordsIn table))
+  unfolding freeRecord
+  past e = sym (numbered-beyond (freeRecord (recordsIn table)) (omega (arith, rw e at none)))
 
   module _ {record-number : ObjectNumber} {kind : ℕ} (is-counted : record-number .0 ≡ number) (is-kind : kind ≡ objectAt table (record-number .0) kindWord) where
-    found : number < records → kind ≡ free → Numbered record-number ≡ numbered (lowestFree table)
+    found : number < records → kind ≡ free → Numbered record-number ≡ numbered (freeRecord (recordsIn table))
+    unfolding freeRecord
     found l e =
         let is-free : objectAt table number kindWord ≡ free = sym (rw is-counted at is-kind) ∙ e in
         let lowest-is = lowest-found number (isFree table) records l none (eq-eqb (objectAt table number kindWord) free is-free) in

@@ -1,0 +1,7 @@
+-- What a message and an initial range move, and what a translation shows.
+pub mod DelegationLaws
+pub mod TransferLaws
+pub mod DeliveryLaws
+pub mod ReceivedLaws
+pub mod InitialRangeLaws
+pub mod TranslationLaws

@@ -1,0 +1,289 @@
+-- What the receiver's block holds after CALL, word by word.
+use Prim.Native.Nat.{ℕ, zero, suc, _+_, _-_, _*_, _≤_, _<_, min}
+use mathlib.Core.Path.{_≡_, refl, sym, ap, _∙_}
+use mathlib.Core.Bool.{true}
+use mathlib.Core.List.{List, [], _∷_, _++_}
+use mathlib.Core.Logic.{_≢_}
+use native.Mathlib.Decide.{le-ind}
+use native.Mathlib.Nat.{add-zero}
+use native.Mathlib.Omega.{arith}
+use lib.ListN.{length, take, drop, set, length-drop, length-set, List·getD-append}
+use lib.Seq.{paste, length-paste, length-paste-head, length-take-le, getD-take, getD-drop, getD-append-add, getD-set-same, getD-set-other}
+use borrow.Author.Tests.{eq-eqb, ne-eqb}
+use Rattle.words.specs.Sizes.{domains, blockWords}
+use Rattle.descriptor.specs.declared.Range.{Range}
+use Rattle.descriptor.proofs.DescriptorLaws.{good-proper}
+use Rattle.interface.specs.Basics.{word, listed}
+use Rattle.interface.specs.Places.{State}
+use Rattle.interface.specs.Damage.{soundState}
+use Rattle.interface.specs.RangeDescriptors.{describe}
+use Rattle.interface.specs.Effects.{Effect, run, fillsOne, filled}
+use Rattle.interface.specs.Verdicts.{Call, callerDomain}
+use Rattle.interface.specs.Message.{headWords, untypedCount, descriptorAt, secondAt, delegateBit, receivedWord, Item, sourceDomain, delegateItem, untypedCopied, carried}
+use Rattle.interface.specs.Consequences.{calleeDomain}
+use Rattle.interface.specs.Deliveries.{Due, untyped, itemCount, DelegatesTo, offsets, hotBase, sourceAt, destinationAt, before, DelegateShown, TranslateShown, WordsDelivered, DeliversWords}
+use Rattle.interface.proofs.Tables.TurnLaws.{filled-append}
+use Rattle.interface.proofs.Tables.TableLaws.{take-listed}
+use Rattle.interface.proofs.Deliveries.TranslationLaws.{translates-exactly}
+use Rattle.interface.proofs.Deliveries.DeliveryLaws.{not-due-same, due-counts, movedBefore, stateBefore, outcome, stepAt, before-first, outcome-delegates, steps-listed, outcome-unmatched, outcome-matched, outcome-untranslated, CallGranted, call-granted, caller-domain-small, before-sound}
+
+-- A copy into a list: its words before the copy, in it, and after it.
+module _ (into from : List ℕ) (at size : ℕ) (fits : at + size ≤ length into) (enough : size ≤ length from) where
+  paste-head : (i : ℕ) → i < at → word (paste into at from size) i ≡ word into i
+  paste-head i l =
+      let head = take at into ++ take size from in
+      let long = length-paste-head into at from size (omega arith) enough in
+      let first : length (take at into) ≡ at = length-take-le at into (omega arith) in
+      List·getD-append head (drop (at + size) into) 0 i (omega arith) ∙ List·getD-append (take at into) (take size from) 0 i (omega arith) ∙ getD-take at into i 0 l
+
+  paste-middle : (i : ℕ) → i < size → word (paste into at from size) (at + i) ≡ word from i
+  paste-middle i l =
+      let head = take at into ++ take size from in
+      let long = length-paste-head into at from size (omega arith) enough in
+      let first : length (take at into) ≡ at = length-take-le at into (omega arith) in
+      List·getD-append head (drop (at + size) into) 0 (at + i) (omega arith) ∙
+      ap (λ (n : ℕ). word head (n + i)) (sym first) ∙ getD-append-add (take at into) (take size from) i 0 ∙ getD-take size from i 0 l
+
+  paste-tail : (i : ℕ) → at + size ≤ i → word (paste into at from size) i ≡ word into i
+  paste-tail i l =
+      let head = take at into ++ take size from in
+      let long : length head ≡ at + size = length-paste-head into at from size (omega arith) enough in
+      let rest : i ≡ length head + (i - (at + size)) = omega arith in
+      let back : at + size + (i - (at + size)) ≡ i = omega arith in
+      ap (word (paste into at from size)) rest ∙ getD-append-add head (drop (at + size) into) (i - (at + size)) 0 ∙
+      getD-drop (at + size) into (i - (at + size)) 0 ∙ ap (word into) back
+
+-- How many places listed steps fill: none where no step does, and some where one does.
+module _ (step : ℕ → Effect) (s : State) where
+  listed-next : (n : ℕ) → filled (listed (suc n) step) s ≡ filled (listed n step) s + fillsOne (step n) (run (listed n step) s)
+  unfolding listed filled
+  listed-next n = filled-append (listed n step) (step n ∷ []) s ∙ (rw add-zero)
+
+  fill-none : (n : ℕ) → ((i : ℕ) → i < n → fillsOne (step i) (run (listed i step) s) ≡ 0) → filled (listed n step) s ≡ 0
+  fill-none zero none = unfold listed filled in refl
+  fill-none (suc n) none = listed-next n ∙ (rw (none n (omega arith), fill-none n (λ i l. none i (omega arith))))
+
+  fill-some : (n i : ℕ) → i < n → fillsOne (step i) (run (listed i step) s) ≡ 1 → filled (listed n step) s ≡ 0 → ⊥
+  fill-some n i l one =
+      le-ind (λ (m : ℕ). filled (listed m step) s ≡ 0 → ⊥) (λ none. omega (arith, listed-next i))
+      (λ m b ih none. ih (omega (arith, listed-next m))) n l
+
+-- The words of two items are four.
+module _ (item later : ℕ) (after-it : item < later) (few : later < 30) where
+  descriptors-apart : descriptorAt item ≢ descriptorAt later
+  descriptors-apart = omega arith
+
+  descriptor-off-second : descriptorAt item ≢ secondAt later
+  descriptor-off-second = omega arith
+
+  second-off-descriptor : secondAt item ≢ descriptorAt later
+  second-off-descriptor = omega arith
+
+  seconds-apart : secondAt item ≢ secondAt later
+  seconds-apart = omega arith
+
+module _ (s : State) (c : Call) where
+  -- the block after some items
+  abbrev blockAfter : ℕ → List ℕ
+  blockAfter n = movedBefore s c n .block
+
+  abbrev copied : List ℕ
+  copied = untypedCopied (c .source) (c .target)
+
+  module _ (long : length copied ≡ blockWords) where
+    block-long : (n : ℕ) → length (blockAfter n) ≡ blockWords
+    unfolding carried
+    block-long zero = long
+    block-long (suc n) = simp length-set (block-long n)
+
+    -- the words below the items are as before them
+    block-below : (n number : ℕ) → number < blockWords - 2 * n → word (blockAfter n) number ≡ word copied number
+    unfolding carried
+    block-below zero number l = refl
+    block-below (suc n) number l =
+        let off-second : number ≢ secondAt n = omega arith in
+        let off-first : number ≢ descriptorAt n = omega arith in
+        rw (getD-set-other, getD-set-other) (block-below n number (omega arith))
+
+    -- an item's two words are set when it comes, and stay
+    block-item : (item n : ℕ) → item < n → n ≤ 30 →
+        (word (blockAfter n) (descriptorAt item) ≡ receivedWord (outcome s c item .received)) ×
+        (word (blockAfter n) (secondAt item) ≡ delegateBit (word (c .source) (secondAt item)))
+    unfolding carried
+    block-item item n l few =
+        le-ind
+        (λ (m : ℕ).
+        m ≤ 30 →
+        (word (blockAfter m) (descriptorAt item) ≡ receivedWord (outcome s c item .received)) ×
+        (word (blockAfter m) (secondAt item) ≡ delegateBit (word (c .source) (secondAt item))))
+        (λ few-now.
+        let apart : descriptorAt item ≢ secondAt item = omega arith in
+        let old = blockAfter item in
+        let shown = receivedWord (outcome s c item .received) in
+        let bit = delegateBit (word (c .source) (secondAt item)) in
+        let in-old : descriptorAt item < length old = rw (block-long item) (omega arith) in
+        let in-first : secondAt item < length (set old (descriptorAt item) shown) = simp length-set (rw (block-long item) (omega arith)) in (
+          getD-set-other (set old (descriptorAt item) shown) (secondAt item) (descriptorAt item) bit 0 apart ∙ getD-set-same old (descriptorAt item) shown 0 in-old,
+          getD-set-same (set old (descriptorAt item) shown) (secondAt item) bit 0 in-first,
+        ))
+        (λ m b ih few-now.
+        let soon : m < 30 = few-now in
+        let descriptors = descriptors-apart item m b soon in
+        let descriptor-second = descriptor-off-second item m b soon in
+        let second-descriptor = second-off-descriptor item m b soon in
+        let seconds = seconds-apart item m b soon in
+        let as-before = ih (omega arith) in
+        (rw (getD-set-other, getD-set-other) (as-before .0), rw (getD-set-other, getD-set-other) (as-before .1)))
+        n l few
+
+  -- what is shown of an item that delegates: nothing where its steps fill none, and else its destination
+  module _ (item : ℕ) (range window : Range) (to : DelegatesTo c item range window) where
+    abbrev steps : List Effect
+    steps = listed (offsets range window) (stepAt s c item range window to)
+
+    abbrev destinationRange : Range
+    destinationRange =
+        record { space = range .space; base = hotBase c item range window window; order = min (range .order) (window .order); mask = range .mask }
+
+    state-at : (offset : ℕ) → offset ≤ offsets range window →
+        before s c item offset .state ≡ run (listed offset (stepAt s c item range window to)) (stateBefore s c item)
+    unfolding before
+    state-at offset l = rw (steps-listed s c item range window to, take-listed (stepAt s c item range window to) offset (offsets range window) l)
+
+    shown-none : filled steps (stateBefore s c item) ≡ 0 → receivedWord (outcome s c item .received) ≡ 0
+    unfolding delegateItem sourceDomain
+    shown-none none = rw (outcome-delegates s c item range window to, eq-eqb (filled steps (stateBefore s c item)) 0 none)
+
+    shown-some : (filled steps (stateBefore s c item) ≡ 0 → ⊥) → receivedWord (outcome s c item .received) ≡ describe destinationRange
+    unfolding delegateItem sourceDomain
+    shown-some some = rw (outcome-delegates s c item range window to, ne-eqb (filled steps (stateBefore s c item)) 0 some)
+
+    none-shown : ((offset : ℕ) → offset < offsets range window →
+        Due (before s c item offset .state) (destinationAt s c item range window offset) (sourceAt s c item range window offset) (range .mask) → ⊥) →
+        receivedWord (outcome s c item .received) ≡ 0
+    none-shown none =
+        shown-none
+        (fill-none (stepAt s c item range window to) (stateBefore s c item) (offsets range window)
+        (λ offset l.
+        let here = state-at offset (omega arith) in
+        rw here at
+        (not-due-same (before s c item offset .state) (destinationAt s c item range window offset) (sourceAt s c item range window offset) (range .mask)
+        (none offset l) .1)))
+
+    some-shown : (offset : ℕ) → offset < offsets range window →
+        Due (before s c item offset .state) (destinationAt s c item range window offset) (sourceAt s c item range window offset) (range .mask) →
+        receivedWord (outcome s c item .received) ≡ describe destinationRange
+    some-shown offset l due =
+        shown-some
+        (fill-some (stepAt s c item range window to) (stateBefore s c item) (offsets range window) offset l
+        (rw (state-at offset (omega arith)) at
+        (due-counts (before s c item offset .state) (destinationAt s c item range window offset) (sourceAt s c item range window offset) (range .mask) due)))
+
+  delegate-shown : (item shown : ℕ) → delegateBit (word (c .source) (secondAt item)) ≡ 1 → shown ≡ receivedWord (outcome s c item .received) →
+      DelegateShown s c item shown
+  delegate-shown item shown bit e =
+      record {
+        unmatched =
+            λ other.
+            let (reason, null) = outcome-unmatched s c item other bit in
+            e ∙ ap (λ (i : Item). receivedWord (i .received)) null;
+        none-due = λ range window to none. e ∙ none-shown item range window to none;
+        some-due = λ range window to offset l due. e ∙ some-shown item range window to offset l due;
+      }
+
+  translate-shown : (item shown : ℕ) → callerDomain s c < domains → soundState (before s c item 0 .state) ≡ true →
+      delegateBit (word (c .source) (secondAt item)) ≡ 0 → shown ≡ receivedWord (outcome s c item .received) → TranslateShown s c item shown
+  translate-shown item shown small sound bit e =
+      record {
+        unmatched =
+            λ other.
+            let (reason, null) = outcome-untranslated s c item other bit in
+            e ∙ ap (λ (i : Item). receivedWord (i .received)) null;
+        matched-shown =
+            λ range window to.
+            e ∙ ap (λ (i : Item). receivedWord (i .received)) (outcome-matched s c item range window to) ∙ (rw (before-first s c item));
+        matched-exact =
+            λ range window to.
+            translates-exactly (before s c item 0 .state) (callerDomain s c) (calleeDomain s c) range window sound small
+            (good-proper (word (c .source) (descriptorAt item)) range (to .range-read));
+      }
+
+-- the words that are copied before the items
+module _ (source target : List ℕ) (source-long : length source ≡ blockWords) (target-long : length target ≡ blockWords)
+    (fits : untypedCount (word source 0) ≤ 60) where
+  abbrev headed : List ℕ
+  headed = set target 0 (word source 0)
+
+  headed-long : length headed ≡ blockWords
+  headed-long = simp length-set target-long
+
+  enough : untypedCount (word source 0) ≤ length (drop headWords source)
+  enough = simp length-drop (rw source-long (omega arith))
+
+  room : headWords + untypedCount (word source 0) ≤ length headed
+  room = rw headed-long (omega arith)
+
+  copied-long : length (untypedCopied source target) ≡ blockWords
+  unfolding untypedCopied
+  copied-long = length-paste headed headWords (drop headWords source) (untypedCount (word source 0)) room enough ∙ headed-long
+
+  copied-first : word (untypedCopied source target) 0 ≡ word source 0
+  unfolding untypedCopied
+  copied-first =
+      paste-head headed (drop headWords source) headWords (untypedCount (word source 0)) room enough 0 (omega arith) ∙
+      getD-set-same target 0 (word source 0) 0 (rw target-long (omega arith))
+
+  copied-head : (number : ℕ) → 1 ≤ number → number < 4 → word (untypedCopied source target) number ≡ word target number
+  unfolding untypedCopied
+  copied-head number l b =
+      let apart : number ≢ 0 = omega arith in
+      paste-head headed (drop headWords source) headWords (untypedCount (word source 0)) room enough number b ∙
+      getD-set-other target 0 number (word source 0) 0 apart
+
+  copied-untyped : (number : ℕ) → number < untypedCount (word source 0) → word (untypedCopied source target) (4 + number) ≡ word source (4 + number)
+  unfolding untypedCopied
+  copied-untyped number l =
+      paste-middle headed (drop headWords source) headWords (untypedCount (word source 0)) room enough number l ∙ getD-drop headWords source number 0
+
+  copied-tail : (number : ℕ) → 4 + untypedCount (word source 0) ≤ number → word (untypedCopied source target) number ≡ word target number
+  unfolding untypedCopied
+  copied-tail number l =
+      let apart : number ≢ 0 = omega arith in
+      paste-tail headed (drop headWords source) headWords (untypedCount (word source 0)) room enough number l ∙
+      getD-set-other target 0 number (word source 0) 0 apart
+
+module _ (s : State) (c : Call) (answer : ℕ) (block : List ℕ) (granted : CallGranted s c answer block) (small : callerDomain s c < domains)
+    (sound : (item : ℕ) → soundState (before s c item 0 .state) ≡ true) where
+  untyped-few : untyped c ≤ 60
+  untyped-few = let payload = granted .payload-fits in omega arith
+
+  items-few : itemCount c ≤ 30
+  items-few = let payload = granted .payload-fits in omega arith
+
+  all-copied : length (untypedCopied (c .source) (c .target)) ≡ blockWords
+  all-copied = copied-long (c .source) (c .target) (granted .source-long) (granted .target-long) untyped-few
+
+  below-items : (number : ℕ) → number < blockWords - 2 * itemCount c → word (movedBefore s c (itemCount c) .block) number ≡ word (untypedCopied (c .source) (c .target)) number
+  below-items = block-below s c all-copied (itemCount c)
+
+  words-delivered : WordsDelivered s c (movedBefore s c (itemCount c) .block)
+  words-delivered =
+      let payload = granted .payload-fits in
+      let source-long = granted .source-long in
+      let target-long = granted .target-long in
+      let few = untyped-few in
+      record {
+        sixty-four = block-long s c all-copied (itemCount c);
+        counts-taken = below-items 0 (omega arith) ∙ copied-first (c .source) (c .target) source-long target-long few;
+        windows-kept = λ number l b. below-items number (omega arith) ∙ copied-head (c .source) (c .target) source-long target-long few number l (omega arith);
+        untyped-copied = λ number l. below-items (4 + number) (omega arith) ∙ copied-untyped (c .source) (c .target) source-long target-long few number l;
+        delegate-shown = λ item l bit. delegate-shown s c item _ bit (block-item s c all-copied item (itemCount c) l items-few .0);
+        translate-shown = λ item l bit. translate-shown s c item _ small (sound item) bit (block-item s c all-copied item (itemCount c) l items-few .0);
+        second-bit = λ item l. block-item s c all-copied item (itemCount c) l items-few .1;
+        others-kept = λ number l b. below-items number b ∙ copied-tail (c .source) (c .target) source-long target-long few number l;
+      }
+
+pub delivers-words : DeliversWords
+delivers-words s c answer effects block n h =
+    let granted = call-granted s c answer effects block n h in
+    rw (granted .gives-back) (words-delivered s c answer block granted (caller-domain-small s c answer effects block n h) (before-sound s c answer effects block n h))

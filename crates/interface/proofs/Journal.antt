@@ -1,0 +1,2 @@
+-- The journal as it is read, in parts and in pieces.
+pub mod JournalLaws

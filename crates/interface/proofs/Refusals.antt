@@ -1,0 +1,7 @@
+-- Each refusal has exactly its cause.
+pub mod ChecksInTurn
+pub mod RefusalLaws
+pub mod CreationRefusals
+pub mod OtherRefusals
+pub mod DispatchRefusals
+pub mod MalformedLaws

@@ -1,0 +1,5 @@
+-- Tables and what they show; steps: what each has to be, and steps in turn; verdicts.
+pub mod TableLaws
+pub mod Steps
+pub mod TurnLaws
+pub mod VerdictLaws

@@ -1,0 +1,43 @@
+-- Laws of verdicts: what a call that is granted tells of the checks of its rule and of the state after it.
+use mathlib.Core.Path.{_≡_, refl, sym, ap, _∙_}
+use mathlib.Core.Bool.{Bool, true, false, true≢false}
+use Rattle.descriptor.specs.declared.Reply.{Reply}
+use Rattle.descriptor.specs.declared.Reply.the-variants.{Damaged, BadCaller}
+use Rattle.interface.specs.Places.{State}
+use Rattle.interface.specs.Damage.{soundState, isEc}
+use Rattle.interface.specs.Effects.{run}
+use Rattle.interface.specs.Verdicts.{Call, Verdict, refuse, grant, deliver, require_else_then_, effectsOf}
+use Rattle.interface.specs.Rules.{rule, hypercall, called, rules, after}
+
+-- whether a verdict refuses the call
+abbrev pub refuses : Verdict → Bool
+refuses (refuse reply) = true
+refuses (grant answer effects) = false
+refuses (deliver answer effects block) = false
+
+-- the verdict of a call that is granted, a message's or another's
+module _ (given : Verdict) (is-granted : refuses given ≡ false) where
+  -- a check of a rule that comes to it was passed, and what follows the check comes to it
+  pub required : (test : Bool) (reply : Reply) (next : Verdict) → (require test else reply then next) ≡ given → (test ≡ true) × (next ≡ given)
+  required true reply next h = (refl, h)
+  required false reply next h = absurd (true≢false (ap refuses h ∙ is-granted))
+
+  module _ (s : State) (c : Call) (granted : rules s c ≡ given) where
+    -- a granted call is granted by the rule of its number
+    pub rule-grants : (verdict : State → Call → Verdict) → hypercall (c .number) ≡ rule verdict → verdict s c ≡ given
+    unfolding rules called
+    rule-grants verdict e =
+        required (isEc s (c .caller)) BadCaller (verdict s c)
+        (ap (called s c) (sym e) ∙ required (soundState s) Damaged (called s c (hypercall (c .number))) granted .1) .1
+
+    -- once the state has been found sound and its caller an EC
+    pub rule-checked : (verdict : State → Call → Verdict) → hypercall (c .number) ≡ rule verdict → (soundState s ≡ true) × (isEc s (c .caller) ≡ true)
+    unfolding rules called
+    rule-checked verdict e =
+        let on-sound = required (soundState s) Damaged (called s c (hypercall (c .number))) granted in
+        (on-sound .0, required (isEc s (c .caller)) BadCaller (verdict s c) (ap (called s c) (sym e) ∙ on-sound .1) .0)
+
+-- a call takes the steps of its verdict
+pub after-verdict : (s : State) (c : Call) (given : Verdict) → rules s c ≡ given → after s c ≡ run (effectsOf given) s
+unfolding after
+after-verdict s c given e = rw e
