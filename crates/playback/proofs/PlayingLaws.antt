@@ -14,13 +14,15 @@ use Rattle.descriptor.specs.declared.Reply.{Reply}
 use Rattle.descriptor.specs.Replies.{statusOf}
 use Rattle.interface.specs.Places.{Tables, sized, tablesOf, tables}
 use Rattle.interface.specs.Boot.{boot}
+use Rattle.interface.specs.Damage.{sound}
 use Rattle.interface.specs.Verdicts.{Call}
 use Rattle.interface.specs.Rules.{bootReply, bootTables}
 use Rattle.interface.specs.History.{hypercalls}
-use Rattle.interface.specs.Demand.{LentOut, tablesAfterAll, historyOf}
+use Rattle.interface.specs.Demand.{LentOut, tablesAfterAll, fromBoot, historyOf}
 use Rattle.interface.specs.Outcomes.{Booted}
 use Rattle.interface.specs.Journal.{recordedCall, Line, ended, spelledLines, beginning, Contents, contentsFrom, contents, recorded, linesFrom, lastLines, replayFrom, replay}
 use Rattle.interface.proofs.BoolLaws.{cases}
+use Rattle.interface.proofs.ConsequenceLaws.{damaged-exactly}
 use Rattle.interface.proofs.DemandLaws.{demand-3}
 use Rattle.interface.proofs.JournalLaws.{IsRecord, NoRecord, none-read, parts-read, record-added, tables-append, lines-append, length-lines, spelled-append, parts-in-turn, replay-none}
 use Rattle.journal.specs.Texts.{lineBytes, Wrote}
@@ -105,6 +107,10 @@ pub plays-from-boot : {bytes out outAfter : List ℕ} {here after : Tables} {ind
     Plays bytes (tablesOf boot) index out at after next outAfter end
 plays-from-boot {bytes} {out} {outAfter} {here} {after} {index} {next} {at} {end} booted plays =
     subst (λ (t : Tables). Plays bytes t index out at after next outAfter end) booted plays
+
+-- boot's tables are sound
+pub sound-from-boot : {here : Tables} → here ≡ fromBoot [] → sound here ≡ true
+sound-from-boot booted = subst (λ (t : Tables). sound t ≡ true) (sym booted) (damaged-exactly .never-from-boot [])
 
 -- where playing stops with room for a line, no whole record begins
 pub stopped-none : {input out : List ℕ} {played : Played} → Stops input out played → played .written + lineBytes ≤ length out → NoRecord (drop (played .at) input)
