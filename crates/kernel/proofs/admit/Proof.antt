@@ -39,10 +39,14 @@ load-requires c κs = (
 )
 
 returns-3 : tie.Need-returns-3
-returns-3 c = sym (admission-other _ _ _ _ (has-rule (c .before .before .before .before .before .before)) _ _ (sym (c .before .before .before .before .before .found .ensures) ∙ c .before .before .before .found2 .given .1) (c .before .load .ensures) (c .if2 .taken))
+returns-3 c =
+    let found = sym (c .before .before .before .before .before .found .ensures) ∙ c .before .before .before .found2 .given .1 in
+    sym (admission-other _ _ _ _ (has-rule (c .before .before .before .before .before .before)) _ _ found (c .before .load .ensures) (c .if2 .taken))
 
 returns-4 : tie.Need-returns-4
-returns-4 c = sym (admission-found _ _ _ _ (has-rule (c .before .before .before .before .before .before)) _ _ (sym (c .before .before .before .before .before .found .ensures) ∙ c .before .before .before .found2 .given .1) (c .before .load .ensures) (c .if2 .left))
+returns-4 c =
+    let found = sym (c .before .before .before .before .before .found .ensures) ∙ c .before .before .before .found2 .given .1 in
+    sym (admission-found _ _ _ _ (has-rule (c .before .before .before .before .before .before)) _ _ found (c .before .load .ensures) (c .if2 .left))
 
 pub admit-spec : {M : Type 1} → statement M
 admit-spec =

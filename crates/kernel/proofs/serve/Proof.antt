@@ -25,7 +25,10 @@ enum-known-admitted-2 : tie.Need-enum-known-admitted-2
 enum-known-admitted-2 c = search needs
 
 dispatch-requires : tie.Need-dispatch-requires
-dispatch-requires c κs = admitted-ec _ _ _ _ (c .before .before .before .before .before .before .before .before .before .before .before .before .before .pre) _ (sym (c .before .before .before .before .before .before .admit .ensures) ∙ c .before .before .before .before .admitted2 .given .1)
+dispatch-requires c κs =
+    let start = c .before .before .before .before .before .before .before .before .before .before .before .before .before in
+    let told = c .before .before .before .before in
+    admitted-ec _ _ _ _ (start .pre) _ (sym (told .before .before .admit .ensures) ∙ told .admitted2 .given .1)
 
 same-length : tie.Need-same-length
 same-length c = search needs
@@ -50,8 +53,9 @@ same-length-5 c = search needs
 
 returns-2 : tie.Need-returns-2
 returns-2 c =
-    let same = admitted-caller _ _ _ _ _ (sym (c .before .before .before .before .before .before .before .before .before .before .before .before .before .admit .ensures) ∙ c .before .before .before .before .before .before .before .before .before .before .before .admitted2 .given .1) in
-    served _ _ _ (search needs) (rw same at (c .before .before .before .before .before .before .dispatch .ensures))
+    let told = c .before .before .before .before .before .before .before .before .before .before .before in
+    let admitted = sym (told .before .before .admit .ensures) ∙ told .admitted2 .given .1 in
+    served _ _ _ (search needs) (rw (admitted-caller _ _ _ _ _ admitted) at (c .before .before .before .before .before .before .dispatch .ensures))
 
 pub serve-spec : {M : Type 1} → statement M
 serve-spec =
