@@ -118,7 +118,8 @@ stopped-none {input} {played = played} stops room =
     not-whole (drop (played .at) input) (λ t. omega (arith, stops .no-room (ap isWhole (stops .stands) ∙ t)))
 
 -- where playing stops, either no whole record begins or there is no room for a line
-pub stopped-by : {input out : List ℕ} {played : Played} (size : ℕ) → size ≡ length out → Stops input out played → NoRecord (drop (played .at) input) ⊎ (size < played .written + lineBytes)
+pub stopped-by : {input out : List ℕ} {played : Played} (size : ℕ) → size ≡ length out → Stops input out played →
+    NoRecord (drop (played .at) input) ⊎ (size < played .written + lineBytes)
 stopped-by {input} {out} {played} size is-size stops =
     cases (ltb size (played .written + lineBytes)) (λ (t : ltb size (played .written + lineBytes) ≡ true). inr (ltb-true size (played .written + lineBytes) t))
     (λ (f : ltb size (played .written + lineBytes) ≡ false). inl (stopped-none stops (omega (arith, ltb-false size (played .written + lineBytes) f))))

@@ -75,7 +75,8 @@ module _ (progress : Progress) (tested : Bool) (test : tested ≡ isWhole (progr
   unfolding lastAfter
   last-front t later = let whole : isWhole (progress .next) ≡ true = sym test ∙ t in rw whole
 
-  pub last-after : tested ≡ false → (later : Progress) (filled kept : ℕ) → later .filled ≡ filled → kept ≡ progress .filled - progress .at → eqb filled kept ≡ lastAfter progress later
+  pub last-after : tested ≡ false → (later : Progress) (filled kept : ℕ) → later .filled ≡ filled → kept ≡ progress .filled - progress .at →
+      eqb filled kept ≡ lastAfter progress later
   unfolding lastAfter
   last-after f later filled kept is-filled is-kept = let other : isWhole (progress .next) ≡ false = sym test ∙ f in rw (other, is-filled, is-kept)
 

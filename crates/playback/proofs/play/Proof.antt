@@ -29,8 +29,14 @@ body-word-requires-7 c κs = search needs
 
 -- the words are the body's
 words : (c : tie.After-body-word7) →
-    Read (now (c .before .before .before .before .before .before .before .before .before .before .args .body)) (c .before .before .before .before .before .before .body-word .result) (c .before .before .before .before .before .body-word2 .result) (c .before .before .before .before .body-word3 .result) (c .before .before .before .body-word4 .result)
-    (c .before .before .body-word5 .result) (c .before .body-word6 .result) (c .body-word7 .result)
+    let word6 = c .before in
+    let word5 = word6 .before in
+    let word4 = word5 .before in
+    let word3 = word4 .before in
+    let word2 = word3 .before in
+    let word1 = word2 .before in
+    Read (now (word1 .before .before .before .before .args .body)) (word1 .body-word .result) (word2 .body-word2 .result) (word3 .body-word3 .result) (word4 .body-word4 .result)
+    (word5 .body-word5 .result) (word6 .body-word6 .result) (c .body-word7 .result)
 words c =
     record {
       is-caller = c .before .before .before .before .before .before .body-word .ensures;
@@ -64,7 +70,12 @@ same-length-2 : tie.Need-same-length-2
 same-length-2 c = search needs
 
 returns : tie.Need-returns
-returns c = (plays-call (words (c .before .before .before .before .before .before .before .before .before .before .before .before .before .before .before)) _ (c .before .before .before .before .before .serve .ensures .0) (c .before .before .before .before .before .before .before .before .before .before .before .before .before .before .if1 .taken) (c .before .before .before .before .before .before .before .before .before .before .before .before .source2 .ensures) (c .before .before .before .before .before .before .before .before .before .before .target2 .ensures), c .before .before .before .before .before .serve .ensures .1)
+returns c =
+    let served = c .before .before .before .before .before .serve .ensures in
+    let chosen = c .before .before .before .before .before .before .before .before .before .before .before .before .before .before in
+    let is-source = c .before .before .before .before .before .before .before .before .before .before .before .before .source2 .ensures in
+    let is-target = c .before .before .before .before .before .before .before .before .before .before .target2 .ensures in
+    (plays-call (words (chosen .before)) _ (served .0) (chosen .if1 .taken) is-source is-target, served .1)
 
 sub-serve : tie.Need-sub-serve
 sub-serve c = search needs
@@ -94,7 +105,10 @@ same-length-4 : tie.Need-same-length-4
 same-length-4 c = search needs
 
 returns-2 : tie.Need-returns-2
-returns-2 c = (plays-other (words (c .before .before .before .before .before .before .before .before .before .before .before .before)) _ (c .before .before .before .before .before .serve2 .ensures .0) (c .before .before .before .before .before .before .before .before .before .before .before .if1 .left) refl refl, c .before .before .before .before .before .serve2 .ensures .1)
+returns-2 c =
+    let served = c .before .before .before .before .before .serve2 .ensures in
+    let chosen = c .before .before .before .before .before .before .before .before .before .before .before in
+    (plays-other (words (chosen .before)) _ (served .0) (chosen .if1 .left) refl refl, served .1)
 
 pub play-spec : {M : Type 1} → statement M
 play-spec =

@@ -35,7 +35,11 @@ returns c = let start = c .before .before .before .before .before .before .befor
     let here = tables (now (start .places)) (now (start .objects)) in
     let playing = c .before .before .before .before .before .before .before .before .before .before .play .ensures in (
       ap (λ (p : Answered). p .tables) (playing .0) ∙ after-one here (recordedCall (start .kind) (now (start .body))),
-      (line-played here (start .index) (start .kind) (now (start .body)) (ap (λ (p : Answered). p .reply) (playing .0)) (c .before .before .before .before .before .status .ensures) (c .before .before .before .before .answer .ensures) (c .before .before .add-line .ensures .0), playing .1),
+      (
+        line-played here (start .index) (start .kind) (now (start .body)) (ap (λ (p : Answered). p .reply) (playing .0))
+            (c .before .before .before .before .before .status .ensures) (c .before .before .before .before .answer .ensures) (c .before .before .add-line .ensures .0),
+        playing .1,
+      ),
     )
 
 pub play-record-spec : {M : Type 1} → statement M

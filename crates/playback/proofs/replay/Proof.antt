@@ -31,7 +31,8 @@ returns c =
 
 -- boot's tables
 started : (c : tie.Else1) →
-    let before = tables (now (c .before .before .before .before .before .before .before .before .before .before .before .before .before .args .places)) (now (c .before .before .before .before .before .before .before .before .before .before .before .before .before .args .objects)) in
+    let given = c .before .before .before .before .before .before .before .before .before .before .before .before .before .args in
+    let before = tables (now (given .places)) (now (given .objects)) in
     (sized before ≡ true) × (tables (c .before .before .before .before .before .before .boot .last .0) (c .before .before .before .before .before .before .boot .last .1 .0) ≡ tablesOf boot)
 started c = boot-done (c .before .before .before .before .before .before .boot .ensures .0) (sym (c .before .status .ensures) ∙ c .if1 .left)
 
@@ -57,11 +58,12 @@ same-length-5 c = search needs
 returns-2 : tie.Need-returns-2
 returns-2 c = let booted = c .before .before .before .before .before .before .before .before .before .before .before in
     let played = c .before .before .before .before .before .before .before .play-records in
-    let journal = now (booted .before .before .before .before .before .before .before .before .before .before .before .before .before .args .journal) in
+    let given = booted .before .before .before .before .before .before .before .before .before .before .before .before .before .args in
+    let journal = now (given .journal) in
     let plays = plays-from-boot (started booted .1) (played .ensures .0) in (
       started booted .0,
       search needs,
-      all-or-no-room journal (played .result .at) plays (stopped-by (length (now (booted .before .before .before .before .before .before .before .before .before .before .before .before .before .args .text))) (search needs) (played .ensures .1 .0)),
+      all-or-no-room journal (played .result .at) plays (stopped-by (length (now (given .text))) (search needs) (played .ensures .1 .0)),
       replays-part journal (played .result .at) plays,
     )
 
@@ -80,10 +82,11 @@ same-length-8 c = search needs
 returns-3 : tie.Need-returns-3
 returns-3 c = let booted = c .before .before .before .before .before .before .before .before .before .before .before .before .before .before .before in
     let played = c .before .before .before .before .before .before .before .before .before .before .before .play-records in
-    let journal = now (booted .before .before .before .before .before .before .before .before .before .before .before .before .before .args .journal) in
+    let given = booted .before .before .before .before .before .before .before .before .before .before .before .before .before .args in
+    let journal = now (given .journal) in
     let plays = plays-from-boot (started booted .1) (played .ensures .0) in
     let none = stopped-none (played .ensures .1 .0) (search needs) in
-    let room : played .result .written + 2 * lineBytes ≤ length (now (booted .before .before .before .before .before .before .before .before .before .before .before .before .before .args .text)) = search needs in (
+    let room : played .result .written + 2 * lineBytes ≤ length (now (given .text)) = search needs in (
       started booted .0,
       all-records journal (played .result .at) plays none,
       omega (arith, part-ends journal (played .result .at) plays, room),

@@ -50,8 +50,9 @@ same-length-4 c = search needs
 
 returns : tie.Need-returns
 returns c =
-    let begun = c .before .before .before .before .before .before .before .before .before .before .before .before .before .before .before .before .before .before .before .before .before .before .before .before in
-    let moved = c .before .before .before .before .before .before .before .before .before .before .before .before .before .before .before .before .before .move-to-front in
+    let after-move = c .before .before .before .before .before .before .before .before .before .before .before .before .before .before .before .before .before in
+    let begun = after-move .before .before .before .before .before .before .before in
+    let moved = after-move .move-to-front in
     let is-whole = c .before .before .before .before .before .before .before .before .before .before .before .before .before .before .is-whole .ensures in
     let taken = c .before .before .before .before .before .before .before .before .before .before .before .before .before .if1 .taken in
     let fits = moved-fits (c .before .before .before .before .before .before .before .before .before .before) in
@@ -97,8 +98,9 @@ same-length-8 c = search needs
 
 returns-2 : tie.Need-returns-2
 returns-2 c =
-    let begun = c .before .before .before .before .before .before .before .before .before .before .before .before .before .before .before .before .before .before .before .before .before .before .before .before .before .before in
-    let moved = c .before .before .before .before .before .before .before .before .before .before .before .before .before .before .before .before .before .before .before .move-to-front in
+    let after-move = c .before .before .before .before .before .before .before .before .before .before .before .before .before .before .before .before .before .before .before in
+    let begun = after-move .before .before .before .before .before .before .before in
+    let moved = after-move .move-to-front in
     let is-whole = c .before .before .before .before .before .before .before .before .before .before .before .before .before .before .before .before .is-whole .ensures in
     let left = c .before .before .before .before .before .before .before .before .before .before .before .before .before .before .before .if1 .left in
     let read = c .before .before .before .before .before .before .before .before .before .before .before .before .before .read-more in
