@@ -7,11 +7,9 @@ ghost use lib.ListN.{length, take, drop};
 ghost use Rattle.interface.specs.Places.{tables};
 ghost use Rattle.interface.specs.Damage.{sound};
 ghost use Rattle.interface.specs.Outcomes.{Answered, answered};
-ghost use Rattle.interface.specs.History.{hypercalls};
-ghost use Rattle.interface.specs.Demand.{tablesAfterAll};
-ghost use Rattle.interface.specs.Journal.{recordedCall, ended, spelled, spelledLines, linesFrom};
+ghost use Rattle.interface.specs.Journal.{recordedCall, ended, spelled, spelledLines};
 ghost use Rattle.journal.specs.Texts.{lineOf, lineBytes, Wrote};
-ghost use Rattle.playback.specs.Playing.{foundIn, stopOf, Plays, Stops, ReplayedAs};
+ghost use Rattle.playback.specs.Playing.{foundIn, stopOf, PlaysRecord, Plays, Stops, ReplayedAs};
 use descriptor::Reply;
 use journal::lines;
 use journal::lines::Line;
@@ -136,13 +134,8 @@ fn play_record(
     requires { ⌜ sound (tables (now places) (now objects)) ≡ true ⌝ }
     requires { ⌜ at + lineBytes ≤ length (now out) ⌝ }
     ensures { λ r. ⌜
-        tables (now (places .exit)) (now (objects .exit)) ≡
-        tablesAfterAll (tables (now (places .entry)) (now (objects .entry))) (hypercalls (recordedCall kind (now (body .entry))) ∷ []) ⌝ }
-    ensures { λ r. ⌜
-        Wrote (now (out .entry)) at
-        (spelledLines (linesFrom (tables (now (places .entry)) (now (objects .entry))) index (recordedCall kind (now (body .entry)) ∷ [])))
-        (now (out .exit)) r ⌝ }
-    ensures { λ r. ⌜ sound (tables (now (places .exit)) (now (objects .exit))) ≡ true ⌝ }
+        PlaysRecord (recordedCall kind (now (body .entry))) (tables (now (places .entry)) (now (objects .entry))) index (now (out .entry)) at
+        (tables (now (places .exit)) (now (objects .exit))) (now (out .exit)) r ⌝ }
 {
     let reply = play(kind, body, places, objects);
     let status = reply.status();

@@ -121,15 +121,15 @@ loop-again c = let told = c .before .before .before .before .before .before .bef
     let played = c .before .before .before .before .before .before .play-record .ensures in (
       ends told,
       turn .inv .1,
-      played .1 .0 .fits,
+      played .writes .fits,
       omega arith,
       turn .inv .4,
       search needs,
       search needs,
       search needs,
       plays-more _ _ _ _ (turn .inv .1) (now (told .before .before .before .before .before .before .before .before .before .args .input)) (turn .at) _ _ (turn .inv .8) (omega arith)
-          (found told) (played .0) (played .1 .0),
-      played .1 .1,
+          (found told) (played .leaves) (played .writes),
+      played .still-sound,
     )
 
 pub play-records-spec : {M : Type 1} → statement M
