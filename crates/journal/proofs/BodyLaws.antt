@@ -10,10 +10,16 @@ use lib.Seq.{getD-drop, take-suc-set, take-all}
 use Rattle.interface.specs.Basics.{word, listed}
 use Rattle.interface.specs.Journal.{bodyWord}
 
--- the word of a body's first four bytes is its first
-pub first-of-four : (bytes : List ℕ) (a b c d r : ℕ) → a ≡ word bytes 0 → b ≡ word bytes 1 → c ≡ word bytes 2 → d ≡ word bytes 3 → r ≡ a + b * 256 + c * 65536 + d * 16777216 → r ≡ bodyWord bytes 0
+-- a word of a body is that of its four bytes
+pub word-of-four : (bytes : List ℕ) (index a b c d r : ℕ) → a ≡ word bytes (4 * index) → b ≡ word bytes (4 * index + 1) → c ≡ word bytes (4 * index + 2) →
+    d ≡ word bytes (4 * index + 3) → r ≡ a + b * 256 + c * 65536 + d * 16777216 → r ≡ bodyWord bytes index
 unfolding bodyWord
-first-of-four bytes a b c d r ea eb ec ed er = rw (er, ea, eb, ec, ed)
+word-of-four bytes index a b c d r ea eb ec ed er = rw (er, ea, eb, ec, ed)
+
+-- and the first is that of the first four
+pub first-of-four : (bytes : List ℕ) (a b c d r : ℕ) → a ≡ word bytes 0 → b ≡ word bytes 1 → c ≡ word bytes 2 → d ≡ word bytes 3 →
+    r ≡ a + b * 256 + c * 65536 + d * 16777216 → r ≡ bodyWord bytes 0
+first-of-four bytes a b c d r ea eb ec ed er = word-of-four bytes 0 a b c d r ea eb ec ed er
 
 -- a word whose bytes are all past the end is 0
 pub word-past-end : (body : List ℕ) (index : ℕ) → length body / 4 < index → 0 ≡ bodyWord body index

@@ -77,8 +77,21 @@ pub fn body_word(body: &[u8], index: usize) -> u32
     first_word(&body[start..])
 }
 
-// Fills a block with the words of a body from one on.
-fn block_from(body: &[u8], from: usize, block: &mut [u32])
+// Fills a block with the words of a body from one on, where the body has them all.
+fn whole_block(body: &[u8], from: usize, block: &mut [u32])
+    requires { ⌜ (from ≤ 2 + blockWords) × (4 * (from + blockWords) ≤ length (now body)) × (length (now block) ≡ blockWords) ⌝ }
+    ensures { λ r. ⌜ now (block .exit) ≡ listed blockWords (λ i. bodyWord (now (body .entry)) (from + i)) ⌝ }
+{
+    let mut i: usize = 0;
+    while i < sizes::BLOCK_WORDS {
+        let at = WORD_BYTES * (from + i);
+        block[i] = little_endian(body[at], body[at + 1], body[at + 2], body[at + 3]);
+        i += 1;
+    }
+}
+
+// Fills a block with the words of a body from one on, where the body may end before them.
+fn short_block(body: &[u8], from: usize, block: &mut [u32])
     requires { ⌜ (from ≤ 2 + blockWords) × (length (now block) ≡ blockWords) ⌝ }
     ensures { λ r. ⌜ now (block .exit) ≡ listed blockWords (λ i. bodyWord (now (body .entry)) (from + i)) ⌝ }
 {
@@ -86,6 +99,18 @@ fn block_from(body: &[u8], from: usize, block: &mut [u32])
     while i < sizes::BLOCK_WORDS {
         block[i] = body_word(body, from + i);
         i += 1;
+    }
+}
+
+// Fills a block with the words of a body from one on.
+fn block_from(body: &[u8], from: usize, block: &mut [u32])
+    requires { ⌜ (from ≤ 2 + blockWords) × (length (now block) ≡ blockWords) ⌝ }
+    ensures { λ r. ⌜ now (block .exit) ≡ listed blockWords (λ i. bodyWord (now (body .entry)) (from + i)) ⌝ }
+{
+    if WORD_BYTES * (from + sizes::BLOCK_WORDS) <= body.len() {
+        whole_block(body, from, block);
+    } else {
+        short_block(body, from, block);
     }
 }
 

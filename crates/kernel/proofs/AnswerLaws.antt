@@ -23,11 +23,12 @@ use Rattle.interface.specs.Verdicts.{Call, Verdict, refuse, grant, require_else
 use Rattle.interface.specs.Rules.{Built, rule, not-built, hypercall, called, judged, after, rules, hypercallReply, hypercallTables, bootTables, Runs}
 use Rattle.interface.specs.Outcomes.{Outcome, outcome, Answered, answered, Booted}
 use Rattle.interface.specs.Census.{CensusResult, counted, censusOf}
-use Rattle.interface.specs.Demand.{tablesAfterAll, fromBoot, GoesOn, ShowsHeirs}
+use Rattle.interface.specs.Demand.{tablesAfterAll, fromBoot, GoesOn, ShowsHeirs, tablesAfter}
 use Rattle.interface.proofs.Basics.BoolLaws.{cases, and-left, and-right}
-use Rattle.interface.proofs.Consequences.ConsequenceLaws.{judged-once, refused-stays}
+use Rattle.interface.proofs.Consequences.ConsequenceLaws.{judged-once, refused-stays, stays-sound}
 use Rattle.interface.proofs.History.DemandLaws.{goes-on, shows-heirs}
 use Rattle.interface.proofs.Sound.Soundness.{sound-facts}
+use Rattle.interface.specs.History.{hypercalls}
 use Rattle.tree.specs.Walks.{Linked, placesOnly}
 use Rattle.tree.proofs.LinkLaws.{sound-linked}
 use Rattle.capabilities.specs.Callers.{Called}
@@ -49,77 +50,69 @@ ec-refused number reply e = absurd (omega (arith, ap ecOr0 e))
 
 module _ (places objects : List ℕ) (number caller : ℕ) where
   -- the ways out of an admission
-  pub admission-damaged : sound (tables places objects) ≡ false → admission places objects number caller ≡ Refused Damaged
+  pub admission-not-built : isBuilt number ≡ false → admission places objects number caller ≡ Refused BadHyp
   unfolding admission
-  admission-damaged f = rw f
+  admission-not-built f = rw f
 
-  module _ (t : sound (tables places objects) ≡ true) where
-    pub admission-not-built : isBuilt number ≡ false → admission places objects number caller ≡ Refused BadHyp
+  module _ (b : isBuilt number ≡ true) where
+    admission-no-ec : isEc (view places objects) caller ≡ false → admission places objects number caller ≡ Refused BadCaller
     unfolding admission
-    admission-not-built f = rw (t, f)
+    admission-no-ec f = rw (b, f)
 
-    module _ (b : isBuilt number ≡ true) where
-      admission-no-ec : isEc (view places objects) caller ≡ false → admission places objects number caller ≡ Refused BadCaller
-      unfolding admission
-      admission-no-ec f = rw (t, b, f)
+    admission-ec : isEc (view places objects) caller ≡ true → admission places objects number caller ≡ Ec (record { 0 = caller })
+    unfolding admission
+    admission-ec e = rw (b, e)
 
-      admission-ec : isEc (view places objects) caller ≡ true → admission places objects number caller ≡ Ec (record { 0 = caller })
-      unfolding admission
-      admission-ec e = rw (t, b, e)
+    -- a number past the records, and a record of another kind, are no EC's
+    pub admission-beyond : numbered caller ≡ Beyond → admission places objects number caller ≡ Refused BadCaller
+    unfolding isEc
+    admission-beyond e =
+        cases (ltb caller records)
+        (λ (l : ltb caller records ≡ true).
+        let inside = numbered-so caller (ltb-true caller records l) in
+        let z : _≡_ {A = ℕ} 0 1 = cc in absurd (omega arith))
+        (λ (l : ltb caller records ≡ false). admission-no-ec (rw l))
 
-      -- a number past the records, and a record of another kind, are no EC's
-      pub admission-beyond : numbered caller ≡ Beyond → admission places objects number caller ≡ Refused BadCaller
-      unfolding isEc
-      admission-beyond e =
-          cases (ltb caller records)
-          (λ (l : ltb caller records ≡ true).
-          let inside = numbered-so caller (ltb-true caller records l) in
-          let z : _≡_ {A = ℕ} 0 1 = cc in absurd (omega arith))
-          (λ (l : ltb caller records ≡ false). admission-no-ec (rw l))
+    pub admission-other : (ec : ObjectNumber) (kind : ℕ) → numbered caller ≡ Numbered ec → kind ≡ objectAt objects (ec .0) kindWord → (kind ≡ EC → ⊥) →
+        admission places objects number caller ≡ Refused BadCaller
+    unfolding isEc
+    admission-other ec kind e is-kind other =
+        let inside = numbered-inside caller ec e in
+        admission-no-ec
+        (rw (lt-ltb caller records (inside .1))
+        (ne-eqb (objectAt objects caller kindWord) EC (λ is-ec. other (is-kind ∙ ap (λ (n : ℕ). objectAt objects n kindWord) (inside .0) ∙ is-ec))))
 
-      pub admission-other : (ec : ObjectNumber) (kind : ℕ) → numbered caller ≡ Numbered ec → kind ≡ objectAt objects (ec .0) kindWord → (kind ≡ EC → ⊥) →
-          admission places objects number caller ≡ Refused BadCaller
-      unfolding isEc
-      admission-other ec kind e is-kind other =
-          let inside = numbered-inside caller ec e in
-          admission-no-ec
-          (rw (lt-ltb caller records (inside .1))
-          (ne-eqb (objectAt objects caller kindWord) EC (λ is-ec. other (is-kind ∙ ap (λ (n : ℕ). objectAt objects n kindWord) (inside .0) ∙ is-ec))))
+    pub admission-found : (ec : ObjectNumber) (kind : ℕ) → numbered caller ≡ Numbered ec → kind ≡ objectAt objects (ec .0) kindWord → kind ≡ EC →
+        admission places objects number caller ≡ Ec ec
+    unfolding isEc
+    admission-found ec kind e is-kind is-ec =
+        let inside = numbered-inside caller ec e in
+        admission-ec
+        (rw (lt-ltb caller records (inside .1))
+        (eq-eqb (objectAt objects caller kindWord) EC (ap (λ (n : ℕ). objectAt objects n kindWord) (sym (inside .0)) ∙ sym is-kind ∙ is-ec))) ∙
+        ap (λ (n : ℕ). Ec (record { 0 = n })) (sym (inside .0))
 
-      pub admission-found : (ec : ObjectNumber) (kind : ℕ) → numbered caller ≡ Numbered ec → kind ≡ objectAt objects (ec .0) kindWord → kind ≡ EC →
-          admission places objects number caller ≡ Ec ec
-      unfolding isEc
-      admission-found ec kind e is-kind is-ec =
-          let inside = numbered-inside caller ec e in
-          admission-ec
-          (rw (lt-ltb caller records (inside .1))
-          (eq-eqb (objectAt objects caller kindWord) EC (ap (λ (n : ℕ). objectAt objects n kindWord) (sym (inside .0)) ∙ sym is-kind ∙ is-ec))) ∙
-          ap (λ (n : ℕ). Ec (record { 0 = n })) (sym (inside .0))
-
-  -- an admitted caller is an EC of sound tables
-  admitted-called : (ec : ObjectNumber) → admission places objects number caller ≡ Ec ec → (ec .0 ≡ caller) × Called places objects caller
+  -- an admitted caller is an EC, and it is who the call names
+  admitted-called : (ec : ObjectNumber) → admission places objects number caller ≡ Ec ec → (ec .0 ≡ caller) × (isEc (view places objects) caller ≡ true)
   admitted-called ec e =
-      cases (sound (tables places objects))
-      (λ (t : sound (tables places objects) ≡ true).
       cases (isBuilt number)
       (λ (b : isBuilt number ≡ true).
       cases (isEc (view places objects) caller)
       (λ (k : isEc (view places objects) caller ≡ true).
-      let same : record { 0 = caller } ≡ ec = ec-same (sym (admission-ec t b k) ∙ e) in
-      (sym (ap (λ (n : ObjectNumber). n .0) same), record { is-sound = t; is-ec = k }))
-      (λ (f : isEc (view places objects) caller ≡ false). ec-refused ec BadCaller (sym e ∙ admission-no-ec t b f)))
-      (λ (f : isBuilt number ≡ false). ec-refused ec BadHyp (sym e ∙ admission-not-built t f)))
-      (λ (f : sound (tables places objects) ≡ false). ec-refused ec Damaged (sym e ∙ admission-damaged f))
+      let same : record { 0 = caller } ≡ ec = ec-same (sym (admission-ec b k) ∙ e) in (sym (ap (λ (n : ObjectNumber). n .0) same), k))
+      (λ (f : isEc (view places objects) caller ≡ false). ec-refused ec BadCaller (sym e ∙ admission-no-ec b f)))
+      (λ (f : isBuilt number ≡ false). ec-refused ec BadHyp (sym e ∙ admission-not-built f))
     where
       ec-same : {a b : ObjectNumber} → Ec a ≡ Ec b → a ≡ b
       ec-same e = cc
 
-  -- and it is who the call names
   pub admitted-caller : (ec : ObjectNumber) → admission places objects number caller ≡ Ec ec → ec .0 ≡ caller
   admitted-caller ec e = admitted-called ec e .0
 
-  pub admitted-ec : (ec : ObjectNumber) → admission places objects number caller ≡ Ec ec → Called places objects (ec .0)
-  admitted-ec ec e = let admitted = admitted-called ec e in subst (Called places objects) (sym (admitted .0)) (admitted .1)
+  pub admitted-ec : sound (tables places objects) ≡ true → (ec : ObjectNumber) → admission places objects number caller ≡ Ec ec → Called places objects (ec .0)
+  admitted-ec t ec e =
+      let admitted = admitted-called ec e in
+      subst (Called places objects) (sym (admitted .0)) (record { is-sound = t; is-ec = admitted .1 })
 
 -- what a hypercall comes to where its verdict is known
 module _ (places objects : List ℕ) (c : Call) where
@@ -162,30 +155,32 @@ module _ (places objects : List ℕ) (c : Call) where
         let same-block = is-block ∙ ap (blockOf (c .target)) (sym judged-called) in
         λ i. record { reply = is-reply i; tables = is-tables i; block = same-block i }
 
--- who is not admitted is refused
-module _ (places objects : List ℕ) (c : Call) (reply : Reply) (e : admission places objects (c .number) (c .caller) ≡ Refused reply) where
+-- damaged tables are refused
+pub damaged-outcome : (places objects : List ℕ) (c : Call) → sound (tables places objects) ≡ false →
+    record { reply = Damaged; tables = tables places objects; block = c .target } ≡ outcome (tables places objects) c
+damaged-outcome places objects c f = refused-outcome places objects c Damaged (judged-once (tables places objects) c ∙ (rw f)) (λ z. omega arith)
+
+-- who is not admitted on sound tables is refused
+module _ (places objects : List ℕ) (t : sound (tables places objects) ≡ true) (c : Call) (reply : Reply)
+    (e : admission places objects (c .number) (c .caller) ≡ Refused reply) where
   refused-same : (other : Reply) → admission places objects (c .number) (c .caller) ≡ Refused other → other ≡ reply
   refused-same other f = cc
 
-  by-rule : (built : Built) → hypercall (c .number) ≡ built → sound (tables places objects) ≡ true →
+  by-rule : (built : Built) → hypercall (c .number) ≡ built →
       record { reply = reply; tables = tables places objects; block = c .target } ≡ outcome (tables places objects) c
   unfolding called
-  by-rule not-built is-built t =
-      rw (sym (refused-same BadHyp (admission-not-built places objects (c .number) (c .caller) t (rw is-built)))) (unbuilt-outcome places objects c t is-built)
-  by-rule (rule verdict) is-built t =
+  by-rule not-built is-built =
+      rw (sym (refused-same BadHyp (admission-not-built places objects (c .number) (c .caller) (rw is-built)))) (unbuilt-outcome places objects c t is-built)
+  by-rule (rule verdict) is-built =
       cases (isEc (view places objects) (c .caller))
       (λ (k : isEc (view places objects) (c .caller) ≡ true).
-      ec-refused _ reply (sym (admission-ec places objects (c .number) (c .caller) t (rw is-built) k) ∙ e))
+      ec-refused _ reply (sym (admission-ec places objects (c .number) (c .caller) (rw is-built) k) ∙ e))
       (λ (f : isEc (view places objects) (c .caller) ≡ false).
-      rw (sym (refused-same BadCaller (admission-no-ec places objects (c .number) (c .caller) t (rw is-built) f)))
+      rw (sym (refused-same BadCaller (admission-no-ec places objects (c .number) (c .caller) (rw is-built) f)))
       (refused-outcome places objects c BadCaller (judged-once (tables places objects) c ∙ (rw (t, is-built, f))) (λ z. omega arith)))
 
   pub not-admitted : record { reply = reply; tables = tables places objects; block = c .target } ≡ outcome (tables places objects) c
-  not-admitted =
-      cases (sound (tables places objects)) (λ (t : sound (tables places objects) ≡ true). by-rule (hypercall (c .number)) refl t)
-      (λ (f : sound (tables places objects) ≡ false).
-      rw (sym (refused-same Damaged (admission-damaged places objects (c .number) (c .caller) f)))
-      (refused-outcome places objects c Damaged (judged-once (tables places objects) c ∙ (rw f)) (λ z. omega arith)))
+  not-admitted = by-rule (hypercall (c .number)) refl
 
 -- the census of damaged tables, and that of sound ones
 module _ (places objects : List ℕ) (place : ℕ) (list : List ℕ) where
@@ -224,6 +219,11 @@ module _ (places objects : List ℕ) (t : sound (tables places objects) ≡ true
 pub answers : (here after : Tables) (reply : Reply) (block : List ℕ) (c : Call) → record { reply = reply; tables = after; block = block } ≡ outcome here c →
     record { reply = reply; tables = after } ≡ answered here c
 answers here after reply block c ran = ap (λ (o : Outcome). record { reply = o .reply; tables = o .tables }) ran
+
+-- sound tables stay sound: what a hypercall on them comes to
+pub served : (here : Tables) (c : Call) (after : Outcome) → sound here ≡ true → after ≡ outcome here c → (after ≡ outcome here c) × (sound (after .tables) ≡ true)
+unfolding tablesAfter
+served here c after t e = (e, subst (λ (o : Outcome). sound (o .tables) ≡ true) (sym e) (stays-sound here (hypercalls c) t))
 
 -- what a hypercall, a census and boot come to, and what that says after any events from boot
 pub going-on : (here : Tables) (c : Call) (after : Outcome) → after ≡ outcome here c → (after ≡ outcome here c) × GoesOn here c after

@@ -12,7 +12,8 @@ use Rattle.interface.specs.Places.{State, sized, tables, view}
 use Rattle.interface.specs.Damage.{soundState, sound}
 use Rattle.interface.specs.RangeDescriptors.{reading, malformed}
 use Rattle.interface.specs.Effects.{Effect, run}
-use Rattle.interface.specs.Verdicts.{Call, Verdict, refuse, grant, require_else_then_, replyOf, effectsOf, blockOf, CALL, CREATE-PD, CREATE-EC, CREATE-SC, CREATE-PT, CREATE-SM, REVOKE, LOOKUP, SM-CTRL}
+use Rattle.interface.specs.Verdicts.{Call, Verdict, refuse, grant, require_else_then_, replyOf, effectsOf, blockOf}
+use Rattle.interface.specs.Verdicts.{CALL, CREATE-PD, CREATE-EC, CREATE-SC, CREATE-PT, CREATE-SM, REVOKE, LOOKUP, SM-CTRL}
 use Rattle.interface.specs.Creations.{creation, createPd, createEc, createSc, createPt, createSm}
 use Rattle.interface.specs.Revoke.{revoke}
 use Rattle.interface.specs.Lookup.{lookup}

@@ -1,11 +1,11 @@
--- Who is admitted to a call: a caller that is an EC, on sound tables, with a number that is built.
+-- Who is admitted to a call on sound tables: a caller that is an EC, with a number that is built.
 use Prim.Native.Nat.{ℕ}
 use mathlib.Core.Bool.{Bool, true, false}
 use mathlib.Core.List.{List}
-use Rattle.descriptor.specs.declared.Reply.the-variants.{Damaged, BadHyp, BadCaller}
-use Rattle.interface.specs.Places.{tables, view}
+use Rattle.descriptor.specs.declared.Reply.the-variants.{BadHyp, BadCaller}
+use Rattle.interface.specs.Places.{view}
 use Rattle.interface.specs.Basics.{if_then_else_}
-use Rattle.interface.specs.Damage.{sound, isEc}
+use Rattle.interface.specs.Damage.{isEc}
 use Rattle.interface.specs.Rules.{Built, rule, not-built, hypercall}
 use Rattle.kernel.specs.declared.Admitted.{Admitted}
 use Rattle.kernel.specs.declared.Admitted.the-variants.{Ec, Refused}
@@ -19,9 +19,7 @@ hasRule not-built = false
 abbrev pub isBuilt : ℕ → Bool
 isBuilt number = hasRule (hypercall number)
 
--- damage is tested before the number, and the number before the caller
+-- the number is tested before the caller
 unfoldable pub admission : List ℕ → List ℕ → ℕ → ℕ → Admitted
 admission places objects number caller =
-    if sound (tables places objects) then
-    (if isBuilt number then (if isEc (view places objects) caller then Ec (record { 0 = caller }) else Refused BadCaller) else Refused BadHyp)
-    else Refused Damaged
+    if isBuilt number then (if isEc (view places objects) caller then Ec (record { 0 = caller }) else Refused BadCaller) else Refused BadHyp

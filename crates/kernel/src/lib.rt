@@ -3,6 +3,7 @@ ghost use mathlib.Core.Path.{_≡_};
 ghost use mathlib.Core.Bool.{true};
 ghost use mathlib.Core.List.{[]};
 ghost use Rattle.interface.specs.Places.{tables, sized};
+ghost use Rattle.interface.specs.Damage.{sound};
 ghost use Rattle.interface.specs.Verdicts.{Call};
 ghost use Rattle.interface.specs.Message.{untypedPart};
 ghost use Rattle.interface.specs.Outcomes.{callOf, Outcome, outcome, Booted};
@@ -33,7 +34,7 @@ pub const LOOKUP: u32 = 8;
 
 pub const SM_CTRL: u32 = 11;
 
-// A caller that is an EC, on sound tables, or the refusal.
+// A caller that is an EC, or the refusal.
 enum Admitted {
     Ec(ObjectNumber),
     Refused(Reply),
@@ -46,13 +47,11 @@ fn is_built(number: u32) -> bool
     (number == CALL) | ((CREATE_PD <= number) & (number <= LOOKUP)) | (number == SM_CTRL)
 }
 
-// Damage is tested before the number, the number before the caller, and the caller before a call's own checks.
+// On sound tables the number is tested before the caller, and the caller before a call's own checks.
 fn admit(number: u32, caller: u32, places: &[u32], objects: &[u32]) -> Admitted
+    requires { ⌜ sound (tables (now places) (now objects)) ≡ true ⌝ }
     ensures { λ r. ⌜ r ≡ admission (now (places .entry)) (now (objects .entry)) number caller ⌝ }
 {
-    if !soundness::is_sound(places, objects) {
-        return Admitted::Refused(Reply::Damaged);
-    }
     if !is_built(number) {
         return Admitted::Refused(Reply::BadHyp);
     }
@@ -81,7 +80,10 @@ fn dispatch(
     target: &mut [u32],
 ) -> Reply
     requires { ⌜ Called (now places) (now objects) (caller .0) ⌝ }
-    ensures { λ r. ⌜ record { reply = r; tables = tables (now (places .exit)) (now (objects .exit)); block = now (target .exit) } ≡ outcome (tables (now (places .entry)) (now (objects .entry))) (callOf number (caller .0) first second third fourth fifth sixth (now (source .entry)) (now (target .entry))) ⌝ }
+    ensures { λ r. ⌜
+        record { reply = r; tables = tables (now (places .exit)) (now (objects .exit)); block = now (target .exit) } ≡
+        outcome (tables (now (places .entry)) (now (objects .entry)))
+        (callOf number (caller .0) first second third fourth fifth sixth (now (source .entry)) (now (target .entry))) ⌝ }
 {
     match number {
         CALL => portals::call(caller, first, places, objects, source, target),
@@ -107,9 +109,8 @@ fn dispatch(
     }
 }
 
-// Any hypercall: its number, the caller's EC number and the six words after it (a call takes as many as it has), the place table and the object table, the caller's message
-// block and the callee's.
-pub fn hypercall(
+// A hypercall on tables that are known to be sound: it does not test them, and they stay sound.
+pub fn serve(
     number: u32,
     caller: u32,
     first: u32,
@@ -123,8 +124,12 @@ pub fn hypercall(
     source: &[u32],
     target: &mut [u32],
 ) -> Reply
-    ensures { λ r. ⌜ record { reply = r; tables = tables (now (places .exit)) (now (objects .exit)); block = now (target .exit) } ≡ outcome (tables (now (places .entry)) (now (objects .entry))) (callOf number caller first second third fourth fifth sixth (now (source .entry)) (now (target .entry))) ⌝ }
-    ensures { λ r. ⌜ GoesOn (tables (now (places .entry)) (now (objects .entry))) (callOf number caller first second third fourth fifth sixth (now (source .entry)) (now (target .entry))) (record { reply = r; tables = tables (now (places .exit)) (now (objects .exit)); block = now (target .exit) }) ⌝ }
+    requires { ⌜ sound (tables (now places) (now objects)) ≡ true ⌝ }
+    ensures { λ r. ⌜
+        record { reply = r; tables = tables (now (places .exit)) (now (objects .exit)); block = now (target .exit) } ≡
+        outcome (tables (now (places .entry)) (now (objects .entry)))
+        (callOf number caller first second third fourth fifth sixth (now (source .entry)) (now (target .entry))) ⌝ }
+    ensures { λ r. ⌜ sound (tables (now (places .exit)) (now (objects .exit))) ≡ true ⌝ }
 {
     let admitted = admit(number, caller, places, objects);
     match admitted {
@@ -144,6 +149,50 @@ pub fn hypercall(
             target,
         ),
     }
+}
+
+// Any hypercall: its number, the caller's EC number and the six words after it (a call takes as many as it has), the place table and the object table, the caller's message
+// block and the callee's. Damage is tested before all else.
+pub fn hypercall(
+    number: u32,
+    caller: u32,
+    first: u32,
+    second: u32,
+    third: u32,
+    fourth: u32,
+    fifth: u32,
+    sixth: u32,
+    places: &mut [u32],
+    objects: &mut [u32],
+    source: &[u32],
+    target: &mut [u32],
+) -> Reply
+    ensures { λ r. ⌜
+        record { reply = r; tables = tables (now (places .exit)) (now (objects .exit)); block = now (target .exit) } ≡
+        outcome (tables (now (places .entry)) (now (objects .entry)))
+        (callOf number caller first second third fourth fifth sixth (now (source .entry)) (now (target .entry))) ⌝ }
+    ensures { λ r. ⌜
+        GoesOn (tables (now (places .entry)) (now (objects .entry)))
+        (callOf number caller first second third fourth fifth sixth (now (source .entry)) (now (target .entry)))
+        (record { reply = r; tables = tables (now (places .exit)) (now (objects .exit)); block = now (target .exit) }) ⌝ }
+{
+    if soundness::is_sound(places, objects) {
+        return serve(
+            number,
+            caller,
+            first,
+            second,
+            third,
+            fourth,
+            fifth,
+            sixth,
+            places,
+            objects,
+            source,
+            target,
+        );
+    }
+    Reply::Damaged
 }
 
 // Fills two lent tables as they are at boot; tables of other lengths are refused and stay.

@@ -14,15 +14,17 @@ use Rattle.descriptor.specs.declared.Reply.{Reply}
 use Rattle.descriptor.specs.Replies.{statusOf}
 use Rattle.interface.specs.Places.{Tables, sized, tablesOf, tables}
 use Rattle.interface.specs.Boot.{boot}
+use Rattle.interface.specs.Damage.{sound}
 use Rattle.interface.specs.Verdicts.{Call}
 use Rattle.interface.specs.Rules.{bootReply, bootTables}
 use Rattle.interface.specs.History.{hypercalls}
-use Rattle.interface.specs.Demand.{LentOut, tablesAfterAll, historyOf}
+use Rattle.interface.specs.Demand.{LentOut, tablesAfterAll, fromBoot, historyOf}
 use Rattle.interface.specs.Outcomes.{Booted}
 use Rattle.interface.specs.Journal.{recordedCall, Line, ended, spelledLines, beginning, Contents, contentsFrom, contents, recorded, linesFrom, lastLines, replayFrom, replay}
 use Rattle.interface.proofs.Basics.BoolLaws.{cases}
 use Rattle.interface.proofs.History.DemandLaws.{demand-3}
 use Rattle.interface.proofs.Journal.JournalLaws.{IsRecord, NoRecord, none-read, parts-read, record-added, tables-append, lines-append, length-lines, spelled-append, parts-in-turn, replay-none}
+use Rattle.interface.proofs.Consequences.ConsequenceLaws.{damaged-exactly}
 use Rattle.journal.specs.Texts.{lineBytes, Wrote}
 use Rattle.journal.proofs.TextLaws.{wrote-then}
 use Rattle.playback.specs.Playing.{foundIn, isWhole, stopOf, RoomForEach, Plays, Stops, Replays}
@@ -106,13 +108,18 @@ pub plays-from-boot : {bytes out outAfter : List ℕ} {here after : Tables} {ind
 plays-from-boot {bytes} {out} {outAfter} {here} {after} {index} {next} {at} {end} booted plays =
     subst (λ (t : Tables). Plays bytes t index out at after next outAfter end) booted plays
 
+-- boot's tables are sound
+pub sound-from-boot : {here : Tables} → here ≡ fromBoot [] → sound here ≡ true
+sound-from-boot booted = subst (λ (t : Tables). sound t ≡ true) (sym booted) (damaged-exactly .never-from-boot [])
+
 -- where playing stops with room for a line, no whole record begins
 pub stopped-none : {input out : List ℕ} {played : Played} → Stops input out played → played .written + lineBytes ≤ length out → NoRecord (drop (played .at) input)
 stopped-none {input} {played = played} stops room =
     not-whole (drop (played .at) input) (λ t. omega (arith, stops .no-room (ap isWhole (stops .stands) ∙ t)))
 
 -- where playing stops, either no whole record begins or there is no room for a line
-pub stopped-by : {input out : List ℕ} {played : Played} (size : ℕ) → size ≡ length out → Stops input out played → NoRecord (drop (played .at) input) ⊎ (size < played .written + lineBytes)
+pub stopped-by : {input out : List ℕ} {played : Played} (size : ℕ) → size ≡ length out → Stops input out played →
+    NoRecord (drop (played .at) input) ⊎ (size < played .written + lineBytes)
 stopped-by {input} {out} {played} size is-size stops =
     cases (ltb size (played .written + lineBytes)) (λ (t : ltb size (played .written + lineBytes) ≡ true). inr (ltb-true size (played .written + lineBytes) t))
     (λ (f : ltb size (played .written + lineBytes) ≡ false). inl (stopped-none stops (omega (arith, ltb-false size (played .written + lineBytes) f))))

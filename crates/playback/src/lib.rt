@@ -1,15 +1,15 @@
 // A journal on the kernel: its records found in a slice of bytes, played one by one with their lines, and replayed as a whole from boot on.
 ghost use Prim.Native.Nat.{_+_, _*_, _^_, _≤_, _<_};
 ghost use mathlib.Core.Path.{_≡_};
+ghost use mathlib.Core.Bool.{true};
 ghost use mathlib.Core.List.{[], _∷_, _++_};
 ghost use lib.ListN.{length, take, drop};
 ghost use Rattle.interface.specs.Places.{tables};
+ghost use Rattle.interface.specs.Damage.{sound};
 ghost use Rattle.interface.specs.Outcomes.{Answered, answered};
-ghost use Rattle.interface.specs.History.{hypercalls};
-ghost use Rattle.interface.specs.Demand.{tablesAfterAll};
-ghost use Rattle.interface.specs.Journal.{recordedCall, ended, spelled, spelledLines, linesFrom};
+ghost use Rattle.interface.specs.Journal.{recordedCall, ended, spelled, spelledLines};
 ghost use Rattle.journal.specs.Texts.{lineOf, lineBytes, Wrote};
-ghost use Rattle.playback.specs.Playing.{foundIn, stopOf, Plays, Stops, ReplayedAs};
+ghost use Rattle.playback.specs.Playing.{foundIn, stopOf, PlaysRecord, Plays, Stops, ReplayedAs};
 use descriptor::Reply;
 use journal::lines;
 use journal::lines::Line;
@@ -60,9 +60,13 @@ pub fn record_at(journal: &[u8], at: usize) -> Found
     Found::Whole(kind, size)
 }
 
-// Plays a record: its hypercall on two tables. A CALL's blocks are the record's.
+// Plays a record: its hypercall on two tables that are known to be sound, and stay so. A CALL's blocks are the record's.
 pub fn play(kind: u8, body: &[u8], places: &mut [u32], objects: &mut [u32]) -> Reply
-    ensures { λ r. ⌜ record { reply = r; tables = tables (now (places .exit)) (now (objects .exit)) } ≡ answered (tables (now (places .entry)) (now (objects .entry))) (recordedCall kind (now (body .entry))) ⌝ }
+    requires { ⌜ sound (tables (now places) (now objects)) ≡ true ⌝ }
+    ensures { λ r. ⌜
+        record { reply = r; tables = tables (now (places .exit)) (now (objects .exit)) } ≡
+        answered (tables (now (places .entry)) (now (objects .entry))) (recordedCall kind (now (body .entry))) ⌝ }
+    ensures { λ r. ⌜ sound (tables (now (places .exit)) (now (objects .exit))) ≡ true ⌝ }
 {
     let mut source = [0u32; sizes::BLOCK_WORDS];
     let mut target = [0u32; sizes::BLOCK_WORDS];
@@ -76,7 +80,7 @@ pub fn play(kind: u8, body: &[u8], places: &mut [u32], objects: &mut [u32]) -> R
     if kind as u32 == kernel::CALL {
         records::source(body, &mut source);
         records::target(body, &mut target);
-        return kernel::hypercall(
+        return kernel::serve(
             kind as u32,
             caller,
             first,
@@ -91,7 +95,7 @@ pub fn play(kind: u8, body: &[u8], places: &mut [u32], objects: &mut [u32]) -> R
             &mut target,
         );
     }
-    kernel::hypercall(
+    kernel::serve(
         kind as u32,
         caller,
         first,
@@ -127,9 +131,11 @@ fn play_record(
     out: &mut [u8],
     at: usize,
 ) -> usize
+    requires { ⌜ sound (tables (now places) (now objects)) ≡ true ⌝ }
     requires { ⌜ at + lineBytes ≤ length (now out) ⌝ }
-    ensures { λ r. ⌜ tables (now (places .exit)) (now (objects .exit)) ≡ tablesAfterAll (tables (now (places .entry)) (now (objects .entry))) (hypercalls (recordedCall kind (now (body .entry))) ∷ []) ⌝ }
-    ensures { λ r. ⌜ Wrote (now (out .entry)) at (spelledLines (linesFrom (tables (now (places .entry)) (now (objects .entry))) index (recordedCall kind (now (body .entry)) ∷ []))) (now (out .exit)) r ⌝ }
+    ensures { λ r. ⌜
+        PlaysRecord (recordedCall kind (now (body .entry))) (tables (now (places .entry)) (now (objects .entry))) index (now (out .entry)) at
+        (tables (now (places .exit)) (now (objects .exit))) (now (out .exit)) r ⌝ }
 {
     let reply = play(kind, body, places, objects);
     let status = reply.status();
@@ -152,9 +158,13 @@ pub fn play_records(
     out: &mut [u8],
     mut written: usize,
 ) -> Played
+    requires { ⌜ sound (tables (now places) (now objects)) ≡ true ⌝ }
     requires { ⌜ (written ≤ length (now out)) × (index + length (now input) < 2 ^ 64) ⌝ }
-    ensures { λ r. ⌜ Plays (take (r .at) (now (input .entry))) (tables (now (places .entry)) (now (objects .entry))) index (now (out .entry)) written (tables (now (places .exit)) (now (objects .exit))) (r .index) (now (out .exit)) (r .written) ⌝ }
+    ensures { λ r. ⌜
+        Plays (take (r .at) (now (input .entry))) (tables (now (places .entry)) (now (objects .entry))) index (now (out .entry)) written
+        (tables (now (places .exit)) (now (objects .exit))) (r .index) (now (out .exit)) (r .written) ⌝ }
     ensures { λ r. ⌜ Stops (now (input .entry)) (now (out .exit)) r ⌝ }
+    ensures { λ r. ⌜ sound (tables (now (places .exit)) (now (objects .exit))) ≡ true ⌝ }
 {
     let mut at: usize = 0;
     loop {
@@ -217,7 +227,9 @@ pub fn add_last_lines(next: Found, records: u64, out: &mut [u8], at: usize) -> u
 
 // Replays a whole journal from boot on: plays its whole records in turn, up to the first that is short or of no kind, and writes its lines at the front of a buffer.
 pub fn replay(journal: &[u8], places: &mut [u32], objects: &mut [u32], text: &mut [u8]) -> Replayed
-    ensures { λ r. ⌜ ReplayedAs (tables (now (places .entry)) (now (objects .entry))) (now (journal .entry)) (now (text .entry)) r (tables (now (places .exit)) (now (objects .exit))) (now (text .exit)) ⌝ }
+    ensures { λ r. ⌜
+        ReplayedAs (tables (now (places .entry)) (now (objects .entry))) (now (journal .entry)) (now (text .entry)) r
+        (tables (now (places .exit)) (now (objects .exit))) (now (text .exit)) ⌝ }
 {
     if kernel::boot(places, objects).status() != 0 {
         return Replayed::OtherLengths;

@@ -2,15 +2,20 @@
 use Prim.Native.Nat.{ℕ, suc, _+_, _-_, _^_, _≤_, _<_}
 use mathlib.Core.Path.{_≡_, refl, sym, ap, _∙_, subst}
 use mathlib.Core.Bool.{Bool, true, false}
-use mathlib.Core.List.{List}
+use mathlib.Core.List.{List, []}
 use native.Mathlib.Nat.{zero-add}
 use native.Mathlib.Numerals.{add-one}
 use native.Mathlib.Omega.{arith}
 use lib.Dec.{eqb}
 use lib.ListN.{length, take, drop, getD, set, length-take, length-drop}
+use borrow.Author.Tests.{eq-eqb}
 use lib.Seq.{getD-drop, drop-at, length-take-le, take-at, paste, paste-suc}
-use Rattle.interface.specs.Places.{Tables}
+use Rattle.interface.specs.Places.{Tables, sized, placeTableWords, objectTableWords, tables}
+use Rattle.interface.specs.Damage.{sound}
+use Rattle.interface.specs.Demand.{fromBoot}
+use Rattle.interface.proofs.Basics.BoolLaws.{both}
 use Rattle.playback.specs.Playing.{isWhole}
+use Rattle.playback.proofs.PlayingLaws.{sound-from-boot}
 use Rattle.replay.specs.declared.Progress.{Progress}
 use Rattle.replay.specs.Buffers.{Inside, fronted, lineStart, lastAfter, Turn, Standing, Follows, Turns}
 
@@ -70,7 +75,8 @@ module _ (progress : Progress) (tested : Bool) (test : tested ≡ isWhole (progr
   unfolding lastAfter
   last-front t later = let whole : isWhole (progress .next) ≡ true = sym test ∙ t in rw whole
 
-  pub last-after : tested ≡ false → (later : Progress) (filled kept : ℕ) → later .filled ≡ filled → kept ≡ progress .filled - progress .at → eqb filled kept ≡ lastAfter progress later
+  pub last-after : tested ≡ false → (later : Progress) (filled kept : ℕ) → later .filled ≡ filled → kept ≡ progress .filled - progress .at →
+      eqb filled kept ≡ lastAfter progress later
   unfolding lastAfter
   last-after f later filled kept is-filled is-kept = let other : isWhole (progress .next) ≡ false = sym test ∙ f in rw (other, is-filled, is-kept)
 
@@ -83,3 +89,11 @@ pub turns-more : (start : Standing) {before after : Standing} (count left : ℕ)
     (more : ℕ) × (more + (left - 1) ≡ 2 ^ 64 - 1) × Turns more start after
 unfolding Turns
 turns-more start {before} count left some sum turns follows = (suc count, omega arith, (before, turns, follows))
+
+-- what boot leaves of tables of the right lengths is sound
+pub booted-sound : (places objects : List ℕ) {after : Tables} → length places ≡ placeTableWords → length objects ≡ objectTableWords →
+    (sized (tables places objects) ≡ true → after ≡ fromBoot []) → sound after ≡ true
+unfolding sized
+booted-sound places objects is-places is-objects booted =
+    sound-from-boot
+    (booted (both _ _ (eq-eqb (length places) placeTableWords is-places) (eq-eqb (length objects) objectTableWords is-objects)))

@@ -58,7 +58,7 @@ pub record Turn (input : List ℕ) (last : Bool) (before : Tables) (count : ℕ)
   pub still-last : progress .«is_last» ≡ last
 
 -- the bytes of the input buffer that a progress left stand first among those read by a later one
-pub record Carries (progress : Progress) (input : List ℕ) (later : Progress) (inputAfter : List ℕ) : Type 0 where
+pub record KeepsUnplayed (progress : Progress) (input : List ℕ) (later : Progress) (inputAfter : List ℕ) : Type 0 where
   pub still : take (progress .filled - progress .at) inputAfter ≡ take (progress .filled - progress .at) (drop (progress .at) input)
   pub among : progress .filled - progress .at ≤ later .filled
 
@@ -79,7 +79,7 @@ pub record Follows (before after : Standing) : Type 0 where
   pub turn :
       Turn (take (after .progress .filled) (after .input)) (lastAfter (before .progress) (after .progress)) (before .tables) (before .progress .done) (before .out)
       (lineStart (before .progress)) (after .tables) (after .out) (after .progress)
-  pub carries : Carries (before .progress) (before .input) (after .progress) (after .input)
+  pub keeps : KeepsUnplayed (before .progress) (before .input) (after .progress) (after .input)
 
 -- so many turns, one after the other
 unfoldable pub Turns : ℕ → Standing → Standing → Type 0

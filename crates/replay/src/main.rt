@@ -1,11 +1,13 @@
 // Replays journals on the kernel, each from boot on, and writes their lines: those that the arguments name, one after the other, or the one on standard input.
 ghost use Prim.Native.Nat.{_+_, _-_, _*_, _≤_};
 ghost use mathlib.Core.Path.{_≡_};
+ghost use mathlib.Core.Bool.{true};
 ghost use lib.ListN.{length, take};
 ghost use Rattle.interface.specs.Places.{tables};
+ghost use Rattle.interface.specs.Damage.{sound};
 ghost use Rattle.journal.specs.Texts.{lineBytes};
 ghost use Rattle.playback.specs.Playing.{isWhole};
-ghost use Rattle.replay.specs.Buffers.{Waits, Inside, isEnd, fronted, lineStart, lastAfter, Turn, Carries, begun, TurnsToTheEnd};
+ghost use Rattle.replay.specs.Buffers.{Waits, Inside, isEnd, fronted, lineStart, lastAfter, Turn, KeepsUnplayed, begun, TurnsToTheEnd};
 use journal::lines;
 use libc::STDIN_FILENO;
 use libc::STDOUT_FILENO;
@@ -113,9 +115,13 @@ fn replay_read(
     objects: &mut [u32],
     out: &mut [u8],
 ) -> Progress
+    requires { ⌜ sound (tables (now places) (now objects)) ≡ true ⌝ }
     requires { ⌜ Waits (now out) waiting ⌝ }
     ensures { λ r. ⌜ Inside r (now (input .entry)) (now (out .exit)) ⌝ }
-    ensures { λ r. ⌜ Turn (now (input .entry)) «is_last» (tables (now (places .entry)) (now (objects .entry))) done (now (out .entry)) waiting (tables (now (places .exit)) (now (objects .exit))) (now (out .exit)) r ⌝ }
+    ensures { λ r. ⌜
+        Turn (now (input .entry)) «is_last» (tables (now (places .entry)) (now (objects .entry))) done (now (out .entry)) waiting
+        (tables (now (places .exit)) (now (objects .exit))) (now (out .exit)) r ⌝ }
+    ensures { λ r. ⌜ sound (tables (now (places .exit)) (now (objects .exit))) ≡ true ⌝ }
 {
     if u64::MAX - done < input.len() as u64 {
         return Progress {
@@ -151,10 +157,14 @@ fn replay_more(
     input: &mut [u8],
     out: &mut [u8],
 ) -> Progress
+    requires { ⌜ sound (tables (now places) (now objects)) ≡ true ⌝ }
     requires { ⌜ Inside progress (now input) (now out) ⌝ }
     ensures { λ r. ⌜ Inside r (now (input .exit)) (now (out .exit)) ⌝ }
-    ensures { λ r. ⌜ Turn (take (r .filled) (now (input .exit))) (lastAfter progress r) (tables (now (places .entry)) (now (objects .entry))) (progress .done) (now (out .entry)) (lineStart progress) (tables (now (places .exit)) (now (objects .exit))) (now (out .exit)) r ⌝ }
-    ensures { λ r. ⌜ Carries progress (now (input .entry)) r (now (input .exit)) ⌝ }
+    ensures { λ r. ⌜
+        Turn (take (r .filled) (now (input .exit))) (lastAfter progress r) (tables (now (places .entry)) (now (objects .entry))) (progress .done)
+        (now (out .entry)) (lineStart progress) (tables (now (places .exit)) (now (objects .exit))) (now (out .exit)) r ⌝ }
+    ensures { λ r. ⌜ KeepsUnplayed progress (now (input .entry)) r (now (input .exit)) ⌝ }
+    ensures { λ r. ⌜ sound (tables (now (places .exit)) (now (objects .exit))) ≡ true ⌝ }
 {
     let kept = move_to_front(input, progress.at, progress.filled);
     let next = progress.next;
@@ -192,9 +202,13 @@ fn replay_all(
     input: &mut [u8],
     out: &mut [u8],
 ) -> Progress
+    requires { ⌜ sound (tables (now places) (now objects)) ≡ true ⌝ }
     requires { ⌜ Waits (now out) waiting ⌝ }
     ensures { λ r. ⌜ Inside r (now (input .exit)) (now (out .exit)) ⌝ }
-    ensures { λ r. ⌜ TurnsToTheEnd (record { progress = begun waiting; tables = tables (now (places .entry)) (now (objects .entry)); input = now (input .entry); out = now (out .entry) }) (record { progress = r; tables = tables (now (places .exit)) (now (objects .exit)); input = now (input .exit); out = now (out .exit) }) ⌝ }
+    ensures { λ r. ⌜
+        TurnsToTheEnd
+        (record { progress = begun waiting; tables = tables (now (places .entry)) (now (objects .entry)); input = now (input .entry); out = now (out .entry) })
+        (record { progress = r; tables = tables (now (places .exit)) (now (objects .exit)); input = now (input .exit); out = now (out .exit) }) ⌝ }
 {
     let mut progress = Progress {
         filled: 0,

@@ -10,7 +10,8 @@ use Rattle.interface.specs.Lookup.{lookup}
 use Rattle.interface.specs.Semaphores.{smCtrl}
 use Rattle.interface.specs.Outcomes.{callOf}
 use Rattle.kernel.proofs.AnswerLaws.{unbuilt-outcome, ran-outcome}
-use Rattle.kernel.proofs.RuleLaws.{is-call, is-create-pd, is-create-ec, is-create-sc, is-create-pt, is-create-sm, is-revoke, is-lookup, is-sm-ctrl, is-not-built, create-pd-stays, create-ec-stays, create-sc-stays, create-pt-stays, create-sm-stays, revoke-stays, lookup-stays, sm-ctrl-stays, lookup-runs}
+use Rattle.kernel.proofs.RuleLaws.{is-call, is-create-pd, is-create-ec, is-create-sc, is-create-pt, is-create-sm, is-revoke, is-lookup, is-sm-ctrl, is-not-built}
+use Rattle.kernel.proofs.RuleLaws.{create-pd-stays, create-ec-stays, create-sc-stays, create-pt-stays, create-sm-stays, revoke-stays, lookup-stays, sm-ctrl-stays, lookup-runs}
 use Rattle.kernel.proofs.dispatch.Statement.{statement}
 use Rattle.kernel.proofs.dispatch.Tie as tie
 
@@ -59,9 +60,10 @@ same-length-3 c = search needs
 
 returns : tie.Need-returns
 returns c =
-    let call = callBy (c .before .before .before .before .before .before .before .before .before .before .before .before .before) in
+    let start = c .before .before .before .before .before .before .before .before .before .before .before .before .before in
+    let call = callBy start in
     let carried = c .before .before .before .before .call .ensures call refl refl refl refl in
-    ran-outcome _ _ call portalCall (is-call _ (search needs)) (c .before .before .before .before .before .before .before .before .before .before .before .before .before .pre) _ _ _ _ (carried .runs) (carried .gives)
+    ran-outcome _ _ call portalCall (is-call _ (search needs)) (start .pre) _ _ _ _ (carried .runs) (carried .gives)
 
 same-length-4 : tie.Need-same-length-4
 same-length-4 c = search needs
@@ -71,8 +73,10 @@ same-length-5 c = search needs
 
 returns-2 : tie.Need-returns-2
 returns-2 c =
-    let call = callBy (c .before .before .before .before .before .before .before .before .before .before .before .before) in
-    ran-outcome _ _ call createPd (is-create-pd _ (search needs)) (c .before .before .before .before .before .before .before .before .before .before .before .before .pre) _ _ _ _ (c .before .before .before .before .create-pd .ensures call refl refl refl refl) (create-pd-stays _ call .stays)
+    let start = c .before .before .before .before .before .before .before .before .before .before .before .before in
+    let call = callBy start in
+    ran-outcome _ _ call createPd (is-create-pd _ (search needs)) (start .pre) _ _ _ _
+    (c .before .before .before .before .create-pd .ensures call refl refl refl refl) (create-pd-stays _ call .stays)
 
 same-length-6 : tie.Need-same-length-6
 same-length-6 c = search needs
@@ -82,8 +86,10 @@ same-length-7 c = search needs
 
 returns-3 : tie.Need-returns-3
 returns-3 c =
-    let call = callBy (c .before .before .before .before .before .before .before .before .before .before .before .before) in
-    ran-outcome _ _ call createEc (is-create-ec _ (search needs)) (c .before .before .before .before .before .before .before .before .before .before .before .before .pre) _ _ _ _ (c .before .before .before .before .create-ec .ensures call refl refl refl refl refl) (create-ec-stays _ call .stays)
+    let start = c .before .before .before .before .before .before .before .before .before .before .before .before in
+    let call = callBy start in
+    ran-outcome _ _ call createEc (is-create-ec _ (search needs)) (start .pre) _ _ _ _
+    (c .before .before .before .before .create-ec .ensures call refl refl refl refl refl) (create-ec-stays _ call .stays)
 
 same-length-8 : tie.Need-same-length-8
 same-length-8 c = search needs
@@ -93,8 +99,10 @@ same-length-9 c = search needs
 
 returns-4 : tie.Need-returns-4
 returns-4 c =
-    let call = callBy (c .before .before .before .before .before .before .before .before .before .before .before .before) in
-    ran-outcome _ _ call createSc (is-create-sc _ (search needs)) (c .before .before .before .before .before .before .before .before .before .before .before .before .pre) _ _ _ _ (c .before .before .before .before .create-sc .ensures call refl refl refl refl refl) (create-sc-stays _ call .stays)
+    let start = c .before .before .before .before .before .before .before .before .before .before .before .before in
+    let call = callBy start in
+    ran-outcome _ _ call createSc (is-create-sc _ (search needs)) (start .pre) _ _ _ _
+    (c .before .before .before .before .create-sc .ensures call refl refl refl refl refl) (create-sc-stays _ call .stays)
 
 same-length-10 : tie.Need-same-length-10
 same-length-10 c = search needs
@@ -104,8 +112,10 @@ same-length-11 c = search needs
 
 returns-5 : tie.Need-returns-5
 returns-5 c =
-    let call = callBy (c .before .before .before .before .before .before .before .before .before .before .before .before) in
-    ran-outcome _ _ call createPt (is-create-pt _ (search needs)) (c .before .before .before .before .before .before .before .before .before .before .before .before .pre) _ _ _ _ (c .before .before .before .before .create-pt .ensures call refl refl refl refl refl refl refl) (create-pt-stays _ call .stays)
+    let start = c .before .before .before .before .before .before .before .before .before .before .before .before in
+    let call = callBy start in
+    ran-outcome _ _ call createPt (is-create-pt _ (search needs)) (start .pre) _ _ _ _
+    (c .before .before .before .before .create-pt .ensures call refl refl refl refl refl refl refl) (create-pt-stays _ call .stays)
 
 same-length-12 : tie.Need-same-length-12
 same-length-12 c = search needs
@@ -115,8 +125,10 @@ same-length-13 c = search needs
 
 returns-6 : tie.Need-returns-6
 returns-6 c =
-    let call = callBy (c .before .before .before .before .before .before .before .before .before .before .before .before) in
-    ran-outcome _ _ call createSm (is-create-sm _ (search needs)) (c .before .before .before .before .before .before .before .before .before .before .before .before .pre) _ _ _ _ (c .before .before .before .before .create-sm .ensures call refl refl refl refl) (create-sm-stays _ call .stays)
+    let start = c .before .before .before .before .before .before .before .before .before .before .before .before in
+    let call = callBy start in
+    ran-outcome _ _ call createSm (is-create-sm _ (search needs)) (start .pre) _ _ _ _
+    (c .before .before .before .before .create-sm .ensures call refl refl refl refl) (create-sm-stays _ call .stays)
 
 same-length-14 : tie.Need-same-length-14
 same-length-14 c = search needs
@@ -126,8 +138,10 @@ same-length-15 c = search needs
 
 returns-7 : tie.Need-returns-7
 returns-7 c =
-    let call = callBy (c .before .before .before .before .before .before .before .before .before .before) in
-    ran-outcome _ _ call revoke (is-revoke _ (search needs)) (c .before .before .before .before .before .before .before .before .before .before .pre) _ _ _ _ (c .before .before .revoke .ensures call refl refl refl) (revoke-stays _ call .stays)
+    let start = c .before .before .before .before .before .before .before .before .before .before in
+    let call = callBy start in
+    ran-outcome _ _ call revoke (is-revoke _ (search needs)) (start .pre) _ _ _ _
+    (c .before .before .revoke .ensures call refl refl refl) (revoke-stays _ call .stays)
 
 same-length-16 : tie.Need-same-length-16
 same-length-16 c = search needs
@@ -137,9 +151,10 @@ same-length-17 c = search needs
 
 returns-8 : tie.Need-returns-8
 returns-8 c =
-    let call = callBy (c .before .before .before .before .before .before .before .before) in
-    let runs = lookup-runs _ _ _ call _ (c .before .before .before .before .before .before .before .before .pre) (c .look-up .ensures call refl refl) in
-    ran-outcome _ _ call lookup (is-lookup _ (search needs)) (c .before .before .before .before .before .before .before .before .pre) _ _ _ _ runs (lookup-stays _ call .stays)
+    let start = c .before .before .before .before .before .before .before .before in
+    let call = callBy start in
+    let runs = lookup-runs _ _ _ call _ (start .pre) (c .look-up .ensures call refl refl) in
+    ran-outcome _ _ call lookup (is-lookup _ (search needs)) (start .pre) _ _ _ _ runs (lookup-stays _ call .stays)
 
 same-length-18 : tie.Need-same-length-18
 same-length-18 c = search needs
@@ -149,12 +164,15 @@ same-length-19 c = search needs
 
 returns-9 : tie.Need-returns-9
 returns-9 c =
-    let call = callBy (c .before .before .before .before .before .before .before .before .before .before) in
-    ran-outcome _ _ call smCtrl (is-sm-ctrl _ (search needs)) (c .before .before .before .before .before .before .before .before .before .before .pre) _ _ _ _ (c .before .before .sm-ctrl .ensures call refl refl refl) (sm-ctrl-stays _ call .stays)
+    let start = c .before .before .before .before .before .before .before .before .before .before in
+    let call = callBy start in
+    ran-outcome _ _ call smCtrl (is-sm-ctrl _ (search needs)) (start .pre) _ _ _ _
+    (c .before .before .sm-ctrl .ensures call refl refl refl) (sm-ctrl-stays _ call .stays)
 
 returns-10 : tie.Need-returns-10
 returns-10 c =
-    unbuilt-outcome _ _ (callBy (c .before .before .before .before .before)) (c .before .before .before .before .before .pre .is-sound)
+    let start = c .before .before .before .before .before in
+    unbuilt-outcome _ _ (callBy start) (start .pre .is-sound)
     (is-not-built _ (search needs) (search needs) (search needs) (search needs) (search needs) (search needs) (search needs) (search needs) (search needs))
 
 pub dispatch-spec : {M : Type 1} → statement M

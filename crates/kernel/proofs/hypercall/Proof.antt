@@ -1,10 +1,10 @@
--- Who is not admitted is refused, and who is gets what the rule says.
-use mathlib.Core.Path.{_≡_, sym, _∙_}
+-- Sound tables are served, and damaged ones refused.
+use mathlib.Core.Path.{sym, _∙_}
 use denote.Ref.{now}
 use borrow.Author.Needs.{needs}
 use Rattle.interface.specs.Verdicts.{Call}
 use Rattle.interface.specs.Outcomes.{callOf}
-use Rattle.kernel.proofs.AnswerLaws.{going-on, not-admitted, admitted-caller, admitted-ec}
+use Rattle.kernel.proofs.AnswerLaws.{going-on, damaged-outcome}
 use Rattle.kernel.proofs.hypercall.Statement.{statement}
 use Rattle.kernel.proofs.hypercall.Tie as tie
 
@@ -15,17 +15,11 @@ callBy c =
     callOf (given .number) (given .caller) (given .first) (given .second) (given .third) (given .fourth) (given .fifth) (given .sixth) (now (given .source))
     (now (given .target))
 
-admit-requires : tie.Need-admit-requires
-admit-requires c κs = search needs
+is-sound-requires : tie.Need-is-sound-requires
+is-sound-requires c κs = search needs
 
-enum-known-admitted : tie.Need-enum-known-admitted
-enum-known-admitted c = search needs
-
-enum-known-admitted-2 : tie.Need-enum-known-admitted-2
-enum-known-admitted-2 c = search needs
-
-dispatch-requires : tie.Need-dispatch-requires
-dispatch-requires c κs = admitted-ec _ _ _ _ _ (sym (c .before .before .before .before .before .before .admit .ensures) ∙ c .before .before .before .before .admitted2 .given .1)
+serve-requires : tie.Need-serve-requires
+serve-requires c κs = sym (c .before .before .before .before .is-sound .ensures) ∙ c .before .before .before .if1 .taken
 
 same-length : tie.Need-same-length
 same-length c = search needs
@@ -33,13 +27,11 @@ same-length c = search needs
 same-length-2 : tie.Need-same-length-2
 same-length-2 c = search needs
 
-returns : tie.Need-returns
-returns c =
-    let by = callBy (c .before .before .before .before .before .before .before .before .before .before) in
-    going-on _ by _ (not-admitted _ _ by _ (sym (c .before .before .before .admit .ensures) ∙ c .before .admitted .given .1))
-
 same-length-3 : tie.Need-same-length-3
 same-length-3 c = search needs
+
+returns : tie.Need-returns
+returns c = going-on _ _ _ (c .before .before .before .before .before .before .serve .ensures .0)
 
 same-length-4 : tie.Need-same-length-4
 same-length-4 c = search needs
@@ -49,21 +41,19 @@ same-length-5 c = search needs
 
 returns-2 : tie.Need-returns-2
 returns-2 c =
-    let same = admitted-caller _ _ _ _ _ (sym (c .before .before .before .before .before .before .before .before .before .before .before .before .before .admit .ensures) ∙ c .before .before .before .before .before .before .before .before .before .before .before .admitted2 .given .1) in
-    going-on _ _ _ (rw same at (c .before .before .before .before .before .before .dispatch .ensures))
+    let by = callBy (c .before .before .before .before .before .before .before .before) in
+    going-on _ by _ (damaged-outcome _ _ by (sym (c .before .is-sound .ensures) ∙ c .if1 .left))
 
 pub hypercall-spec : {M : Type 1} → statement M
 hypercall-spec =
     tie.close
     (tie.spec
-    admit-requires
-    enum-known-admitted
-    enum-known-admitted-2
-    dispatch-requires
+    is-sound-requires
+    serve-requires
     same-length
     same-length-2
-    returns
     same-length-3
+    returns
     same-length-4
     same-length-5
     returns-2)

@@ -29,7 +29,8 @@ same-length c = search needs
 returns : tie.Need-returns
 returns c = let start = c .before .before .before .before .before in
     let spelt = c .before .before .spell in
-    line-added (now (start .args .out)) (start .args .at) (start .args .line) (start .pre) (spelt .last .1 .0) (spelt .result) (search needs) (spelt .ensures .0) (spelt .ensures .1 .0) (spelt .ensures .1 .1)
+    line-added (now (start .args .out)) (start .args .at) (start .args .line) (start .pre) (spelt .last .1 .0) (spelt .result) (search needs)
+    (spelt .ensures .0) (spelt .ensures .1 .0) (spelt .ensures .1 .1)
 
 pub add-line-spec : {M : Type 1} → statement M
 add-line-spec =

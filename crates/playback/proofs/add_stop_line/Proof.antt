@@ -40,10 +40,16 @@ returns-2 : tie.Need-returns-2
 returns-2 c = (stop-one _ _ _ (c .before .before .before .before .before .next .given .1) refl (c .before .before .add-line2 .ensures .0), c .before .before .add-line2 .ensures .1)
 
 returns-3 : tie.Need-returns-3
-returns-3 c = (stop-none _ Nothing (c .enum-told2 .given .1) refl (wrote-nothing (now (c .before .before .before .args .out)) (c .before .before .before .args .at) (omega (arith, c .before .before .before .pre))), omega arith)
+returns-3 c =
+    let start = c .before .before .before in
+    let wrote = wrote-nothing (now (start .args .out)) (start .args .at) (omega (arith, start .pre)) in
+    (stop-none _ Nothing (c .enum-told2 .given .1) refl wrote, omega arith)
 
 returns-4 : tie.Need-returns-4
-returns-4 c = (stop-none _ _ (c .enum-told3 .given .1) refl (wrote-nothing (now (c .before .before .before .args .out)) (c .before .before .before .args .at) (omega (arith, c .before .before .before .pre))), omega arith)
+returns-4 c =
+    let start = c .before .before .before in
+    let wrote = wrote-nothing (now (start .args .out)) (start .args .at) (omega (arith, start .pre)) in
+    (stop-none _ _ (c .enum-told3 .given .1) refl wrote, omega arith)
 
 pub add-stop-line-spec : {M : Type 1} → statement M
 add-stop-line-spec =

@@ -29,8 +29,14 @@ body-word-requires-7 c κs = search needs
 
 -- the words are the body's
 words : (c : tie.After-body-word7) →
-    Read (now (c .before .before .before .before .before .before .before .before .before .before .args .body)) (c .before .before .before .before .before .before .body-word .result) (c .before .before .before .before .before .body-word2 .result) (c .before .before .before .before .body-word3 .result) (c .before .before .before .body-word4 .result)
-    (c .before .before .body-word5 .result) (c .before .body-word6 .result) (c .body-word7 .result)
+    let word6 = c .before in
+    let word5 = word6 .before in
+    let word4 = word5 .before in
+    let word3 = word4 .before in
+    let word2 = word3 .before in
+    let word1 = word2 .before in
+    Read (now (word1 .before .before .before .before .args .body)) (word1 .body-word .result) (word2 .body-word2 .result) (word3 .body-word3 .result) (word4 .body-word4 .result)
+    (word5 .body-word5 .result) (word6 .body-word6 .result) (c .body-word7 .result)
 words c =
     record {
       is-caller = c .before .before .before .before .before .before .body-word .ensures;
@@ -48,14 +54,14 @@ source-requires c κs = search needs
 target-requires : tie.Need-target-requires
 target-requires c κs = search needs
 
-slice-aggregate-hypercall : tie.Need-slice-aggregate-hypercall
-slice-aggregate-hypercall c = source-length _ _ (c .before .before .before .before .before .source2 .ensures)
+slice-aggregate-serve : tie.Need-slice-aggregate-serve
+slice-aggregate-serve c = source-length _ _ (c .before .before .before .before .before .source2 .ensures)
 
-slice-aggregate-hypercall-2 : tie.Need-slice-aggregate-hypercall-2
-slice-aggregate-hypercall-2 c = target-length _ _ (c .before .before .before .before .target2 .ensures)
+slice-aggregate-serve-2 : tie.Need-slice-aggregate-serve-2
+slice-aggregate-serve-2 c = target-length _ _ (c .before .before .before .before .target2 .ensures)
 
-hypercall-requires : tie.Need-hypercall-requires
-hypercall-requires c κs = search needs
+serve-requires : tie.Need-serve-requires
+serve-requires c κs = search needs
 
 same-length : tie.Need-same-length
 same-length c = search needs
@@ -64,19 +70,24 @@ same-length-2 : tie.Need-same-length-2
 same-length-2 c = search needs
 
 returns : tie.Need-returns
-returns c = plays-call (words (c .before .before .before .before .before .before .before .before .before .before .before .before .before .before .before)) _ (c .before .before .before .before .before .hypercall .ensures .0) (c .before .before .before .before .before .before .before .before .before .before .before .before .before .before .if1 .taken) (c .before .before .before .before .before .before .before .before .before .before .before .before .source2 .ensures) (c .before .before .before .before .before .before .before .before .before .before .target2 .ensures)
+returns c =
+    let served = c .before .before .before .before .before .serve .ensures in
+    let chosen = c .before .before .before .before .before .before .before .before .before .before .before .before .before .before in
+    let is-source = c .before .before .before .before .before .before .before .before .before .before .before .before .source2 .ensures in
+    let is-target = c .before .before .before .before .before .before .before .before .before .before .target2 .ensures in
+    (plays-call (words (chosen .before)) _ (served .0) (chosen .if1 .taken) is-source is-target, served .1)
 
-sub-hypercall : tie.Need-sub-hypercall
-sub-hypercall c = search needs
+sub-serve : tie.Need-sub-serve
+sub-serve c = search needs
 
-part-hypercall-start : tie.Need-part-hypercall-start
-part-hypercall-start c = search needs
+part-serve-start : tie.Need-part-serve-start
+part-serve-start c = search needs
 
-part-hypercall-end : tie.Need-part-hypercall-end
-part-hypercall-end c = search needs
+part-serve-end : tie.Need-part-serve-end
+part-serve-end c = search needs
 
-sub-hypercall-2 : tie.Need-sub-hypercall-2
-sub-hypercall-2 c = search needs
+sub-serve-2 : tie.Need-sub-serve-2
+sub-serve-2 c = search needs
 
 part-target-start : tie.Need-part-target-start
 part-target-start c = search needs
@@ -84,8 +95,8 @@ part-target-start c = search needs
 part-target-end : tie.Need-part-target-end
 part-target-end c = search needs
 
-hypercall-requires-2 : tie.Need-hypercall-requires-2
-hypercall-requires-2 c κs = search needs
+serve-requires-2 : tie.Need-serve-requires-2
+serve-requires-2 c κs = search needs
 
 same-length-3 : tie.Need-same-length-3
 same-length-3 c = search needs
@@ -94,7 +105,10 @@ same-length-4 : tie.Need-same-length-4
 same-length-4 c = search needs
 
 returns-2 : tie.Need-returns-2
-returns-2 c = plays-other (words (c .before .before .before .before .before .before .before .before .before .before .before .before)) _ (c .before .before .before .before .before .hypercall2 .ensures .0) (c .before .before .before .before .before .before .before .before .before .before .before .if1 .left) refl refl
+returns-2 c =
+    let served = c .before .before .before .before .before .serve2 .ensures in
+    let chosen = c .before .before .before .before .before .before .before .before .before .before .before in
+    (plays-other (words (chosen .before)) _ (served .0) (chosen .if1 .left) refl refl, served .1)
 
 pub play-spec : {M : Type 1} → statement M
 play-spec =
@@ -109,19 +123,19 @@ play-spec =
     body-word-requires-7
     source-requires
     target-requires
-    slice-aggregate-hypercall
-    slice-aggregate-hypercall-2
-    hypercall-requires
+    slice-aggregate-serve
+    slice-aggregate-serve-2
+    serve-requires
     same-length
     same-length-2
     returns
-    sub-hypercall
-    part-hypercall-start
-    part-hypercall-end
-    sub-hypercall-2
+    sub-serve
+    part-serve-start
+    part-serve-end
+    sub-serve-2
     part-target-start
     part-target-end
-    hypercall-requires-2
+    serve-requires-2
     same-length-3
     same-length-4
     returns-2)

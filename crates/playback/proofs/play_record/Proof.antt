@@ -31,12 +31,18 @@ same-length-3 : tie.Need-same-length-3
 same-length-3 c = search needs
 
 returns : tie.Need-returns
-returns c = let start = c .before .before .before .before .before .before .before .before .before .before .before .before .before .before .before .before .before .args in
+returns c =
+    let start = c .before .before .before .before .before .before .before .before .before .before .before .before .before .before .before .before .before .args in
     let here = tables (now (start .places)) (now (start .objects)) in
-    let playing = c .before .before .before .before .before .before .before .before .before .before .play .ensures in (
-      ap (λ (p : Answered). p .tables) playing ∙ after-one here (recordedCall (start .kind) (now (start .body))),
-      line-played here (start .index) (start .kind) (now (start .body)) (ap (λ (p : Answered). p .reply) playing) (c .before .before .before .before .before .status .ensures) (c .before .before .before .before .answer .ensures) (c .before .before .add-line .ensures .0),
-    )
+    let playing = c .before .before .before .before .before .before .before .before .before .before .play .ensures in
+    let status = c .before .before .before .before .before .status .ensures in
+    let answer = c .before .before .before .before .answer .ensures in
+    let line = c .before .before .add-line .ensures .0 in
+    record {
+      leaves = ap (λ (p : Answered). p .tables) (playing .0) ∙ after-one here (recordedCall (start .kind) (now (start .body)));
+      still-sound = search needs;
+      writes = line-played here (start .index) (start .kind) (now (start .body)) (ap (λ (p : Answered). p .reply) (playing .0)) status answer line;
+    }
 
 pub play-record-spec : {M : Type 1} → statement M
 play-record-spec =

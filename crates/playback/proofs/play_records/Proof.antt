@@ -10,6 +10,7 @@ use denote.Ref.{now}
 use denote.Enum.Declared.{tagOf}
 use borrow.Author.Needs.{needs}
 use Rattle.interface.specs.Places.{tables}
+use Rattle.interface.specs.Damage.{sound}
 use Rattle.playback.specs.declared.Found.{Found}
 use Rattle.playback.specs.declared.Found.the-variants.{Nothing, Unknown, Short, Whole}
 use Rattle.playback.specs.Playing.{isWhole, Plays}
@@ -21,7 +22,10 @@ use Rattle.playback.proofs.play_records.Tie as tie
 
 abbrev Inv-loop : tie.InvT-loop
 Inv-loop input index₀ places₀ objects₀ out₀ written₀ at₀ index places objects out written at =
-    (at ≤ length input) × (written₀ ≤ length out₀) × (written ≤ length out) × (index ≤ index₀ + at) × (index₀ + length input < 2 ^ 64) × (length places ≡ length places₀) × (length objects ≡ length objects₀) × (length out ≡ length out₀) × Plays (take at input) (tables places₀ objects₀) index₀ out₀ written₀ (tables places objects) index out written
+    (at ≤ length input) × (written₀ ≤ length out₀) × (written ≤ length out) × (index ≤ index₀ + at) × (index₀ + length input < 2 ^ 64) ×
+    (length places ≡ length places₀) × (length objects ≡ length objects₀) × (length out ≡ length out₀) ×
+    Plays (take at input) (tables places₀ objects₀) index₀ out₀ written₀ (tables places objects) index out written ×
+    (sound (tables places objects) ≡ true)
 
 abbrev μ-loop : tie.MeasureT-loop
 μ-loop input index₀ places₀ objects₀ out₀ written₀ at₀ index places objects out written at = length input - at
@@ -35,16 +39,19 @@ not-whole (Whole kind size) keys t = miss (0 ∷ 1 ∷ 2 ∷ []) 3 tt keys
 
 -- a whole record begins where the loop stands
 found : (c : tie.After-known-told Inv-loop μ-loop) →
-    FoundWhole (drop (c .before .before .before .before .loop .at) (now (c .before .before .before .before .before .before .before .before .before .args .input))) (c .before .next .given .0 .0) (c .before .next .given .0 .1 .0)
+    let given = c .before .before .before .before .before .before .before .before .before .args in
+    let next = c .before .next .given .0 in
+    FoundWhole (drop (c .before .before .before .before .loop .at) (now (given .input))) (next .0) (next .1 .0)
 found c = whole-found _ _ _ (sym (c .before .before .before .record-at .ensures) ∙ c .before .next .given .1)
 
 -- and ends inside the bytes
-ends : (c : tie.After-known-told Inv-loop μ-loop) → c .before .before .before .before .loop .at + 1 + c .before .next .given .0 .1 .0 ≤ length (now (c .before .before .before .before .before .before .before .before .before .args .input))
+ends : (c : tie.After-known-told Inv-loop μ-loop) →
+    c .before .before .before .before .loop .at + 1 + c .before .next .given .0 .1 .0 ≤ length (now (c .before .before .before .before .before .before .before .before .before .args .input))
 ends c = whole-inside (now (c .before .before .before .before .before .before .before .before .before .args .input)) _ _ _ (found c)
 
 loop-holds : tie.Need-loop-holds Inv-loop μ-loop
 loop-holds c = let start = c .before .before .before .before in
-    (omega arith, start .pre .0, start .pre .0, omega arith, start .pre .1, refl, refl, refl, plays-start _ _ _ _ (start .pre .0))
+    (omega arith, start .pre .1 .0, start .pre .1 .0, omega arith, start .pre .1 .1, refl, refl, refl, plays-start _ _ _ _ (start .pre .1 .0), start .pre .0)
 
 record-at-requires : tie.Need-record-at-requires Inv-loop μ-loop
 record-at-requires c κs = tt
@@ -63,7 +70,9 @@ same-length-3 c = search needs
 
 returns : tie.Need-returns Inv-loop μ-loop
 returns c = let turn = c .before .before .loop in
-    (turn .inv .8, record { inside = turn .inv .0; stands = c .before .record-at .ensures; no-room = λ is-whole. absurd (not-whole (c .before .record-at .result) (c .match .keys2) is-whole) })
+    let found = c .before .record-at in
+    let none = not-whole (found .result) (c .match .keys2) in
+    (turn .inv .8, (record { inside = turn .inv .0; stands = found .ensures; no-room = λ is-whole. absurd (none is-whole) }, turn .inv .9))
 
 sub-if1 : tie.Need-sub-if1 Inv-loop μ-loop
 sub-if1 c = omega arith
@@ -79,7 +88,8 @@ same-length-6 c = search needs
 
 returns-2 : tie.Need-returns-2 Inv-loop μ-loop
 returns-2 c = let turn = c .before .before .before .before .before .loop in
-    (turn .inv .8, record { inside = turn .inv .0; stands = sym (c .before .before .next .given .1) ∙ c .before .before .before .before .record-at .ensures; no-room = λ is-whole. omega arith })
+    let stands = sym (c .before .before .next .given .1) ∙ c .before .before .before .before .record-at .ensures in
+    (turn .inv .8, (record { inside = turn .inv .0; stands = stands; no-room = λ is-whole. omega arith }, turn .inv .9))
 
 add-start : tie.Need-add-start Inv-loop μ-loop
 add-start c = omega (arith, ends (c .before))
@@ -111,13 +121,15 @@ loop-again c = let told = c .before .before .before .before .before .before .bef
     let played = c .before .before .before .before .before .before .play-record .ensures in (
       ends told,
       turn .inv .1,
-      played .1 .fits,
+      played .writes .fits,
       omega arith,
       turn .inv .4,
       search needs,
       search needs,
       search needs,
-      plays-more _ _ _ _ (turn .inv .1) (now (told .before .before .before .before .before .before .before .before .before .args .input)) (turn .at) _ _ (turn .inv .8) (omega arith) (found told) (played .0) (played .1),
+      plays-more _ _ _ _ (turn .inv .1) (now (told .before .before .before .before .before .before .before .before .before .args .input)) (turn .at) _ _ (turn .inv .8) (omega arith)
+          (found told) (played .leaves) (played .writes),
+      played .still-sound,
     )
 
 pub play-records-spec : {M : Type 1} → statement M

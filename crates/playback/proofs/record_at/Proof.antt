@@ -17,16 +17,22 @@ body-bytes-requires : tie.Need-body-bytes-requires
 body-bytes-requires c κs = search needs
 
 returns-2 : tie.Need-returns-2
-returns-2 c = found-unknown (now (c .before .before .before .before .before .args .journal)) (c .before .before .before .before .before .args .at) _ _ (search needs) refl (c .before .body-bytes .ensures) (c .if2 .taken)
+returns-2 c =
+    let given = c .before .before .before .before .before .args in
+    found-unknown (now (given .journal)) (given .at) _ _ (search needs) refl (c .before .body-bytes .ensures) (c .if2 .taken)
 
 sub-if3 : tie.Need-sub-if3
 sub-if3 c = search needs
 
 returns-3 : tie.Need-returns-3
-returns-3 c = found-short (now (c .before .before .before .before .before .before .args .journal)) (c .before .before .before .before .before .before .args .at) _ _ (search needs) refl (c .before .before .body-bytes .ensures) (c .before .if2 .left) (c .if3 .taken)
+returns-3 c =
+    let given = c .before .before .before .before .before .before .args in
+    found-short (now (given .journal)) (given .at) _ _ (search needs) refl (c .before .before .body-bytes .ensures) (c .before .if2 .left) (c .if3 .taken)
 
 returns-4 : tie.Need-returns-4
-returns-4 c = found-whole (now (c .before .before .before .before .before .before .args .journal)) (c .before .before .before .before .before .before .args .at) _ _ (search needs) refl (c .before .before .body-bytes .ensures) (c .before .if2 .left) (omega arith)
+returns-4 c =
+    let given = c .before .before .before .before .before .before .args in
+    found-whole (now (given .journal)) (given .at) _ _ (search needs) refl (c .before .before .body-bytes .ensures) (c .before .if2 .left) (omega arith)
 
 pub record-at-spec : {M : Type 1} → statement M
 record-at-spec =

@@ -8,7 +8,7 @@ use denote.Ref.{now}
 use Rattle.interface.specs.Places.{sized, tablesOf, tables}
 use Rattle.interface.specs.Boot.{boot}
 use Rattle.journal.specs.Texts.{lineBytes}
-use Rattle.playback.proofs.PlayingLaws.{plays-from-boot, stopped-none, stopped-by, replays-part, part-ends, all-records, replays-all, all-or-no-room, boot-refused, boot-done}
+use Rattle.playback.proofs.PlayingLaws.{plays-from-boot, sound-from-boot, stopped-none, stopped-by, replays-part, part-ends, all-records, replays-all, all-or-no-room, boot-refused, boot-done}
 use borrow.Author.Needs.{needs}
 use Rattle.playback.proofs.replay.Statement.{statement}
 use Rattle.playback.proofs.replay.Tie as tie
@@ -31,12 +31,14 @@ returns c =
 
 -- boot's tables
 started : (c : tie.Else1) →
-    let before = tables (now (c .before .before .before .before .before .before .before .before .before .before .before .before .before .args .places)) (now (c .before .before .before .before .before .before .before .before .before .before .before .before .before .args .objects)) in
+    let given = c .before .before .before .before .before .before .before .before .before .before .before .before .before .args in
+    let before = tables (now (given .places)) (now (given .objects)) in
     (sized before ≡ true) × (tables (c .before .before .before .before .before .before .boot .last .0) (c .before .before .before .before .before .before .boot .last .1 .0) ≡ tablesOf boot)
 started c = boot-done (c .before .before .before .before .before .before .boot .ensures .0) (sym (c .before .status .ensures) ∙ c .if1 .left)
 
 play-records-requires : tie.Need-play-records-requires
-play-records-requires c κs = search needs
+play-records-requires c κs = let booted = c .before .before .before in
+    (sound-from-boot (booted .before .before .before .before .before .before .boot .ensures .1 (started booted .0)), search needs)
 
 sub-if2 : tie.Need-sub-if2
 sub-if2 c = search needs
@@ -56,11 +58,12 @@ same-length-5 c = search needs
 returns-2 : tie.Need-returns-2
 returns-2 c = let booted = c .before .before .before .before .before .before .before .before .before .before .before in
     let played = c .before .before .before .before .before .before .before .play-records in
-    let journal = now (booted .before .before .before .before .before .before .before .before .before .before .before .before .before .args .journal) in
+    let given = booted .before .before .before .before .before .before .before .before .before .before .before .before .before .args in
+    let journal = now (given .journal) in
     let plays = plays-from-boot (started booted .1) (played .ensures .0) in (
       started booted .0,
       search needs,
-      all-or-no-room journal (played .result .at) plays (stopped-by (length (now (booted .before .before .before .before .before .before .before .before .before .before .before .before .before .args .text))) (search needs) (played .ensures .1)),
+      all-or-no-room journal (played .result .at) plays (stopped-by (length (now (given .text))) (search needs) (played .ensures .1 .0)),
       replays-part journal (played .result .at) plays,
     )
 
@@ -79,14 +82,15 @@ same-length-8 c = search needs
 returns-3 : tie.Need-returns-3
 returns-3 c = let booted = c .before .before .before .before .before .before .before .before .before .before .before .before .before .before .before in
     let played = c .before .before .before .before .before .before .before .before .before .before .before .play-records in
-    let journal = now (booted .before .before .before .before .before .before .before .before .before .before .before .before .before .args .journal) in
+    let given = booted .before .before .before .before .before .before .before .before .before .before .before .before .before .args in
+    let journal = now (given .journal) in
     let plays = plays-from-boot (started booted .1) (played .ensures .0) in
-    let none = stopped-none (played .ensures .1) (search needs) in
-    let room : played .result .written + 2 * lineBytes ≤ length (now (booted .before .before .before .before .before .before .before .before .before .before .before .before .before .args .text)) = search needs in (
+    let none = stopped-none (played .ensures .1 .0) (search needs) in
+    let room : played .result .written + 2 * lineBytes ≤ length (now (given .text)) = search needs in (
       started booted .0,
       all-records journal (played .result .at) plays none,
       omega (arith, part-ends journal (played .result .at) plays, room),
-      replays-all journal (played .result .at) plays none (played .ensures .1 .stands) (c .before .before .add-last-lines .ensures .0),
+      replays-all journal (played .result .at) plays none (played .ensures .1 .0 .stands) (c .before .before .add-last-lines .ensures .0),
     )
 
 pub replay-spec : {M : Type 1} → statement M

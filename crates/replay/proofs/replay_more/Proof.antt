@@ -1,11 +1,10 @@
 -- What was read lies in the input buffer, and so do the records that were played.
 use Prim.Native.Nat.{_≤_}
-use mathlib.Core.Path.{_≡_, sym, _∙_}
+use mathlib.Core.Path.{sym, _∙_}
 use native.Mathlib.Omega.{arith}
 use lib.ListN.{length}
 use lib.Seq.{length-take-le}
 use denote.Ref.{now}
-use Rattle.replay.specs.Buffers.{lineStart}
 use Rattle.replay.proofs.BufferLaws.{moved-front, inside-whole, turn-whole, line-start-front, line-start-after, last-front, last-after}
 use borrow.Author.Needs.{needs}
 use Rattle.replay.proofs.replay_more.Statement.{statement}
@@ -24,11 +23,15 @@ slice-reshare-prefix-replay-read : tie.Need-slice-reshare-prefix-replay-read
 slice-reshare-prefix-replay-read c = search needs
 
 -- what was moved lies in the buffer
-moved-fits : (c : tie.After-replay-read-arg) → c .before .before .before .before .before .before .before .move-to-front .result ≤ length (c .before .before .before .before .before .before .before .move-to-front .last .0)
+moved-fits : (c : tie.After-replay-read-arg) →
+    let moved = c .before .before .before .before .before .before .before .move-to-front in
+    moved .result ≤ length (moved .last .0)
 moved-fits c = search needs
 
 slice-aggregate-replay-read : tie.Need-slice-aggregate-replay-read
-slice-aggregate-replay-read c = let moved = c .before .before .before .before .before .before .before .move-to-front in sym (length-take-le (moved .result) (moved .last .0) (moved-fits c))
+slice-aggregate-replay-read c =
+    let moved = c .before .before .before .before .before .before .before .move-to-front in
+    sym (length-take-le (moved .result) (moved .last .0) (moved-fits c))
 
 replay-read-requires : tie.Need-replay-read-requires
 replay-read-requires c κs = search needs
@@ -46,13 +49,27 @@ same-length-4 : tie.Need-same-length-4
 same-length-4 c = search needs
 
 returns : tie.Need-returns
-returns c = let moved = c .before .before .before .before .before .before .before .before .before .before .before .before .before .before .before .before .before .move-to-front in
+returns c =
+    let after-move = c .before .before .before .before .before .before .before .before .before .before .before .before .before .before .before .before .before in
+    let begun = after-move .before .before .before .before .before .before .before in
+    let moved = after-move .move-to-front in
+    let is-whole = c .before .before .before .before .before .before .before .before .before .before .before .before .before .before .is-whole .ensures in
+    let taken = c .before .before .before .before .before .before .before .before .before .before .before .before .before .if1 .taken in
+    let fits = moved-fits (c .before .before .before .before .before .before .before .before .before .before) in
     let replayed = c .before .before .before .before .before .before .replay-read .ensures in
-    let start : 0 ≡ lineStart (c .before .before .before .before .before .before .before .before .before .before .before .before .before .before .before .before .before .before .before .before .before .before .before .before .args .progress) = search (line-start-front, needs) in
-    let begun = c .before .before .before .before .before .before .before .before .before .before .before .before .before .before .before .before .before .before .before .before .before .before .before .before in
-    let all = replayed .1 .all-read ∙ length-take-le (moved .result) (moved .last .0) (moved-fits (c .before .before .before .before .before .before .before .before .before .before)) in (
+    let start = line-start-front (begun .args .progress) _ is-whole taken in
+    let all = replayed .1 .0 .all-read ∙ length-take-le (moved .result) (moved .last .0) fits in (
       inside-whole (moved .last .0) (moved .result) (replayed .0),
-      (turn-whole (moved .last .0) (moved .result) (moved-fits (c .before .before .before .before .before .before .before .before .before .before)) start (last-front _ _ (c .before .before .before .before .before .before .before .before .before .before .before .before .before .before .is-whole .ensures) (c .before .before .before .before .before .before .before .before .before .before .before .before .before .if1 .taken) _) (replayed .1), record { still = moved-front (now (begun .args .input)) (moved .last .0) _ _ (begun .pre .next) (begun .pre .read) (moved .ensures .1); among = omega (arith, all, moved .ensures .0) }),
+      (
+        turn-whole (moved .last .0) (moved .result) fits start (last-front _ _ is-whole taken _) (replayed .1 .0),
+        (
+          record {
+            still = moved-front (now (begun .args .input)) (moved .last .0) _ _ (begun .pre .1 .next) (begun .pre .1 .read) (moved .ensures .1);
+            among = omega (arith, all, moved .ensures .0);
+          },
+          replayed .1 .1,
+        ),
+      ),
     )
 
 read-more-requires : tie.Need-read-more-requires
@@ -80,14 +97,29 @@ same-length-8 : tie.Need-same-length-8
 same-length-8 c = search needs
 
 returns-2 : tie.Need-returns-2
-returns-2 c = let read = c .before .before .before .before .before .before .before .before .before .before .before .before .before .read-more in
+returns-2 c =
+    let after-move = c .before .before .before .before .before .before .before .before .before .before .before .before .before .before .before .before .before .before .before in
+    let begun = after-move .before .before .before .before .before .before .before in
+    let moved = after-move .move-to-front in
+    let is-whole = c .before .before .before .before .before .before .before .before .before .before .before .before .before .before .before .before .is-whole .ensures in
+    let left = c .before .before .before .before .before .before .before .before .before .before .before .before .before .before .before .if1 .left in
+    let read = c .before .before .before .before .before .before .before .before .before .before .before .before .before .read-more in
     let replayed = c .before .before .before .before .before .before .replay-read2 .ensures in
-    let start : c .before .before .before .before .before .before .before .before .before .before .before .before .before .before .before .before .before .before .before .before .before .before .before .before .before .before .args .progress .waiting ≡ lineStart (c .before .before .before .before .before .before .before .before .before .before .before .before .before .before .before .before .before .before .before .before .before .before .before .before .before .before .args .progress) = search (line-start-after, needs) in
-    let begun = c .before .before .before .before .before .before .before .before .before .before .before .before .before .before .before .before .before .before .before .before .before .before .before .before .before .before in
-    let moved = c .before .before .before .before .before .before .before .before .before .before .before .before .before .before .before .before .before .before .before .move-to-front in
-    let all = replayed .1 .all-read ∙ length-take-le (read .result) (read .last .1 .1 .0) (read .ensures .0 .1) in (
+    let start = line-start-after (begun .args .progress) _ is-whole left in
+    let all = replayed .1 .0 .all-read ∙ length-take-le (read .result) (read .last .1 .1 .0) (read .ensures .0 .1) in (
       inside-whole (read .last .1 .1 .0) (read .result) (replayed .0),
-      (turn-whole (read .last .1 .1 .0) (read .result) (read .ensures .0 .1) start (last-after _ _ (c .before .before .before .before .before .before .before .before .before .before .before .before .before .before .before .before .is-whole .ensures) (c .before .before .before .before .before .before .before .before .before .before .before .before .before .before .before .if1 .left) _ _ _ all (moved .ensures .0)) (replayed .1), record { still = (rw (moved .ensures .0) at (read .ensures .1)) ∙ moved-front (now (begun .args .input)) (moved .last .0) _ _ (begun .pre .next) (begun .pre .read) (moved .ensures .1); among = omega (arith, all, moved .ensures .0, read .ensures .0 .0) }),
+      (
+        turn-whole (read .last .1 .1 .0) (read .result) (read .ensures .0 .1) start (last-after _ _ is-whole left _ _ _ all (moved .ensures .0)) (replayed .1 .0),
+        (
+          record {
+            still =
+                (rw (moved .ensures .0) at (read .ensures .1)) ∙
+                moved-front (now (begun .args .input)) (moved .last .0) _ _ (begun .pre .1 .next) (begun .pre .1 .read) (moved .ensures .1);
+            among = omega (arith, all, moved .ensures .0, read .ensures .0 .0);
+          },
+          replayed .1 .1,
+        ),
+      ),
     )
 
 pub replay-more-spec : {M : Type 1} → statement M

@@ -15,7 +15,18 @@ record-at-requires c κs = search needs
 returns : tie.Need-returns
 returns c = (
   search needs,
-  record { all-read = refl; plays = plays-start _ _ _ _ (search needs); stands = c .record-at .ensures; no-room = λ below. absurd (omega arith); over = λ below. absurd (omega arith); past-count = λ past. (refl, refl); still-last = refl },
+  (
+    record {
+      all-read = refl;
+      plays = plays-start _ _ _ _ (search needs);
+      stands = c .record-at .ensures;
+      no-room = λ below. absurd (omega arith);
+      over = λ below. absurd (omega arith);
+      past-count = λ past. (refl, refl);
+      still-last = refl;
+    },
+    search needs,
+  ),
 )
 
 play-records-requires : tie.Need-play-records-requires
@@ -35,8 +46,19 @@ same-length-3 c = search needs
 
 returns-2 : tie.Need-returns-2
 returns-2 c = let played = c .before .before .before .before .before .before .before .play-records .ensures in (
-  record { next = played .1 .inside; read = omega arith; lines = played .0 .writes .fits; long = search needs },
-  record { all-read = refl; plays = played .0; stands = played .1 .stands; no-room = λ below. played .1 .no-room; over = λ below. c .is-end .ensures; past-count = λ past. absurd (omega arith); still-last = refl },
+  record { next = played .1 .0 .inside; read = omega arith; lines = played .0 .writes .fits; long = search needs },
+  (
+    record {
+      all-read = refl;
+      plays = played .0;
+      stands = played .1 .0 .stands;
+      no-room = λ below. played .1 .0 .no-room;
+      over = λ below. c .is-end .ensures;
+      past-count = λ past. absurd (omega arith);
+      still-last = refl;
+    },
+    played .1 .1,
+  ),
 )
 
 pub replay-read-spec : {M : Type 1} → statement M

@@ -8,8 +8,8 @@ use Rattle.words.specs.Sizes.{blockWords}
 use Rattle.interface.specs.Basics.{listed}
 use Rattle.interface.specs.Journal.{bodyWord}
 use Rattle.journal.proofs.BodyLaws.{listed-more, listed-all}
-use Rattle.journal.proofs.records.block_from.Statement.{statement}
-use Rattle.journal.proofs.records.block_from.Tie as tie
+use Rattle.journal.proofs.records.short_block.Statement.{statement}
+use Rattle.journal.proofs.records.short_block.Tie as tie
 
 abbrev Inv-loop : tie.InvT-loop
 Inv-loop body from block₀ i₀ block i = (i ≤ blockWords) × (length block ≡ blockWords) × (take i block ≡ listed i (λ k. bodyWord body (from + k)))
@@ -56,8 +56,8 @@ returns c = let turn = c .before .loop in
     let all : turn .i ≡ blockWords = omega arith in
     listed-all (λ k. bodyWord (now (start .args .body)) (start .args .from + k)) (turn .block) blockWords (turn .inv .1) (rw all at (turn .inv .2))
 
-pub block-from-spec : {M : Type 1} → statement M
-block-from-spec =
+pub short-block-spec : {M : Type 1} → statement M
+short-block-spec =
     tie.close
     (tie.spec
     Inv-loop
