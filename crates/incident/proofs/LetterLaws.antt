@@ -8,7 +8,7 @@ use Rattle.interface.specs.Places.{Tables}
 use Rattle.interface.specs.Boot.{rootEc, exc}
 use Rattle.interface.specs.Verdicts.{CALL, CREATE-PD}
 use Rattle.interface.specs.Outcomes.{callOf, Outcome, outcome, Answered, answered}
-use Rattle.kernel.proofs.AnswerLaws.{answers}
+use Rattle.interface.proofs.Tables.VerdictLaws.{answers}
 use Rattle.incident.specs.Story.{itemBlock, letter, question, windowBlock}
 
 pub answers-letter : (here after : Tables) (reply : Reply) (block : List ℕ) (caller portal item second window : ℕ) (source target : List ℕ) → source ≡ itemBlock item second →

@@ -11,6 +11,7 @@ use descriptor::Descriptor;
 use descriptor::FoundSelector;
 use descriptor::Reply;
 use descriptor::Selector;
+use interface::numbers;
 use words::sizes;
 
 // The root's EC, and the selector where the root has its PD.
@@ -85,7 +86,7 @@ pub fn create_pd(selector: u32, places: &mut [u32], objects: &mut [u32]) -> Repl
     ensures { λ r. ⌜ record { reply = r; tables = tables (now (places .exit)) (now (objects .exit)) } ≡ answered (tables (now (places .entry)) (now (objects .entry))) (question CREATE-PD rootEc selector exc 0) ⌝ }
 {
     ask(
-        kernel::CREATE_PD,
+        numbers::CREATE_PD,
         ROOT_EC,
         selector,
         ROOT_PD,
@@ -100,7 +101,7 @@ pub fn create_ec(selector: u32, pd: u32, places: &mut [u32], objects: &mut [u32]
     ensures { λ r. ⌜ record { reply = r; tables = tables (now (places .exit)) (now (objects .exit)) } ≡ answered (tables (now (places .entry)) (now (objects .entry))) (question CREATE-EC rootEc selector pd cpu) ⌝ }
 {
     ask(
-        kernel::CREATE_EC,
+        numbers::CREATE_EC,
         ROOT_EC,
         selector,
         pd,
@@ -122,7 +123,7 @@ pub fn create_pt(selector: u32, ec: u32, places: &mut [u32], objects: &mut [u32]
     ensures { λ r. ⌜ record { reply = r; tables = tables (now (places .exit)) (now (objects .exit)) } ≡ answered (tables (now (places .entry)) (now (objects .entry))) (question CREATE-PT rootEc selector exc ec) ⌝ }
 {
     ask(
-        kernel::CREATE_PT,
+        numbers::CREATE_PT,
         ROOT_EC,
         selector,
         ROOT_PD,
@@ -136,14 +137,14 @@ pub fn create_pt(selector: u32, ec: u32, places: &mut [u32], objects: &mut [u32]
 pub fn look_up(caller: u32, range: u32, places: &mut [u32], objects: &mut [u32]) -> Reply
     ensures { λ r. ⌜ record { reply = r; tables = tables (now (places .exit)) (now (objects .exit)) } ≡ answered (tables (now (places .entry)) (now (objects .entry))) (question LOOKUP caller range 0 0) ⌝ }
 {
-    ask(kernel::LOOKUP, caller, range, 0, 0, places, objects)
+    ask(numbers::LOOKUP, caller, range, 0, 0, places, objects)
 }
 
 // Takes back what was lent of a range of the root's, which keeps its own.
 pub fn revoke(range: u32, places: &mut [u32], objects: &mut [u32]) -> Reply
     ensures { λ r. ⌜ record { reply = r; tables = tables (now (places .exit)) (now (objects .exit)) } ≡ answered (tables (now (places .entry)) (now (objects .entry))) (question REVOKE rootEc range 0 0) ⌝ }
 {
-    ask(kernel::REVOKE, ROOT_EC, range, 0, 0, places, objects)
+    ask(numbers::REVOKE, ROOT_EC, range, 0, 0, places, objects)
 }
 
 // The sender's block of a message of one typed item.
@@ -181,7 +182,7 @@ fn send(
     let source = item_block(item, second);
     let mut target = window_block(window);
     kernel::hypercall(
-        kernel::CALL,
+        numbers::CALL,
         caller,
         portal,
         0,

@@ -6,6 +6,7 @@ ghost use Rattle.words.specs.Sizes.{blockWords};
 ghost use Rattle.interface.specs.Basics.{listed, word};
 ghost use Rattle.interface.specs.Verdicts.{CALL};
 ghost use Rattle.interface.specs.Journal.{bodyBytes, bodyWord, recordedCall};
+use interface::numbers;
 use words::sizes;
 
 // The bytes of a word.
@@ -21,15 +22,15 @@ pub fn body_bytes(kind: u8) -> usize
     ensures { λ r. ⌜ r ≡ bodyBytes kind ⌝ }
 {
     match kind as u32 {
-        kernel::CALL => 520,
-        kernel::CREATE_PD => 16,
-        kernel::CREATE_EC => 20,
-        kernel::CREATE_SC => 20,
-        kernel::CREATE_PT => 28,
-        kernel::CREATE_SM => 16,
-        kernel::REVOKE => 12,
-        kernel::LOOKUP => 8,
-        kernel::SM_CTRL => 12,
+        numbers::CALL => 520,
+        numbers::CREATE_PD => 16,
+        numbers::CREATE_EC => 20,
+        numbers::CREATE_SC => 20,
+        numbers::CREATE_PT => 28,
+        numbers::CREATE_SM => 16,
+        numbers::REVOKE => 12,
+        numbers::LOOKUP => 8,
+        numbers::SM_CTRL => 12,
         _ => 0,
     }
 }

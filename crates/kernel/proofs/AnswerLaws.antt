@@ -1,186 +1,33 @@
--- Answers: from who is admitted and what a call's rule came to, to what the kernel promises.
-use Prim.Native.Nat.{ℕ, _<_}
-use mathlib.Core.Path.{_≡_, refl, sym, ap, _∙_, subst}
-use mathlib.Core.Bool.{Bool, true, false}
+-- Answers: from the damage test and what sound tables come to, to what the kernel promises.
+use Prim.Native.Nat.{ℕ}
+use mathlib.Core.Path.{_≡_, sym, _∙_, subst}
+use mathlib.Core.Bool.{true, false}
 use mathlib.Core.List.{List, []}
 use native.Mathlib.Omega.{arith}
-use Rattle.descriptor.specs.Replies.{statusOf}
 use Rattle.descriptor.specs.declared.Reply.{Reply}
-use Rattle.descriptor.specs.declared.Reply.the-variants.{Damaged, BadHyp, BadCaller}
-use Rattle.descriptor.specs.declared.ObjectNumber.{ObjectNumber}
-use lib.Dec.{eqb, ltb}
+use Rattle.descriptor.specs.declared.Reply.the-variants.{Damaged}
+use lib.Dec.{eqb}
 use lib.ListN.{length}
-use borrow.Author.Tests.{ltb-true, lt-ltb, eq-eqb, ne-eqb, eqb-true}
-use Rattle.words.specs.Sizes.{records}
-use Rattle.descriptor.specs.Numbers.{numbered}
-use Rattle.descriptor.specs.declared.FoundObject.the-variants.{Numbered, Beyond}
-use Rattle.descriptor.proofs.DescriptorLaws.{numbered-so, numbered-inside}
-use Rattle.interface.specs.Basics.{if_then_else_}
-use Rattle.interface.specs.Places.{State, Tables, sized, tablesOf, EC, kindWord, objectAt, capAt, placeTableWords, objectTableWords, tables, view}
-use Rattle.interface.specs.Damage.{soundState, sound, isEc}
-use Rattle.interface.specs.Effects.{Effect, run}
-use Rattle.interface.specs.Verdicts.{Call, Verdict, refuse, grant, require_else_then_, replyOf, effectsOf, blockOf}
-use Rattle.interface.specs.Rules.{Built, rule, not-built, hypercall, called, judged, after, rules, hypercallReply, hypercallTables, bootTables, Runs}
-use Rattle.interface.specs.Outcomes.{Outcome, outcome, Answered, answered, Booted}
+use borrow.Author.Tests.{eqb-true}
+use Rattle.interface.specs.Places.{Tables, sized, capAt, placeTableWords, objectTableWords, tables, view}
+use Rattle.interface.specs.Damage.{soundState, sound}
+use Rattle.interface.specs.Verdicts.{Call}
+use Rattle.interface.specs.Rules.{hypercall, after, bootTables}
+use Rattle.interface.specs.Outcomes.{Outcome, outcome, Booted}
 use Rattle.interface.specs.Census.{CensusResult, counted, censusOf}
-use Rattle.interface.specs.Demand.{tablesAfterAll, fromBoot, GoesOn, ShowsHeirs, tablesAfter}
-use Rattle.interface.proofs.Basics.BoolLaws.{cases, and-left, and-right}
-use Rattle.interface.proofs.Consequences.ConsequenceLaws.{judged-once, refused-stays, stays-sound}
+use Rattle.interface.specs.Demand.{tablesAfterAll, fromBoot, GoesOn, ShowsHeirs}
+use Rattle.interface.proofs.Basics.BoolLaws.{and-left, and-right}
+use Rattle.interface.proofs.Consequences.ConsequenceLaws.{judged-once}
 use Rattle.interface.proofs.History.DemandLaws.{goes-on, shows-heirs}
 use Rattle.interface.proofs.Sound.Soundness.{sound-facts}
-use Rattle.interface.specs.History.{hypercalls}
 use Rattle.tree.specs.Walks.{Linked, placesOnly}
 use Rattle.tree.proofs.LinkLaws.{sound-linked}
-use Rattle.capabilities.specs.Callers.{Called}
-use Rattle.kernel.specs.declared.Admitted.{Admitted}
-use Rattle.kernel.specs.declared.Admitted.the-variants.{Ec, Refused}
-use Rattle.kernel.specs.Admission.{hasRule, isBuilt, admission}
-
--- a caller that is an object number is below the number of records
-pub numbered-small : (caller : ℕ) (number : ObjectNumber) → numbered caller ≡ Numbered number → number .0 < records
-numbered-small caller number e = let inside = numbered-inside caller number e in omega arith
-
--- an admitted caller is no refused one
-ec-refused : {C : Type 0} (number : ObjectNumber) (reply : Reply) → Ec number ≡ Refused reply → C
-ec-refused number reply e = absurd (omega (arith, ap ecOr0 e))
-  where
-    ecOr0 : Admitted → ℕ
-    ecOr0 (Ec number) = 0
-    ecOr0 (Refused reply) = 1
-
-module _ (places objects : List ℕ) (number caller : ℕ) where
-  -- the ways out of an admission
-  pub admission-not-built : isBuilt number ≡ false → admission places objects number caller ≡ Refused BadHyp
-  unfolding admission
-  admission-not-built f = rw f
-
-  module _ (b : isBuilt number ≡ true) where
-    admission-no-ec : isEc (view places objects) caller ≡ false → admission places objects number caller ≡ Refused BadCaller
-    unfolding admission
-    admission-no-ec f = rw (b, f)
-
-    admission-ec : isEc (view places objects) caller ≡ true → admission places objects number caller ≡ Ec (record { 0 = caller })
-    unfolding admission
-    admission-ec e = rw (b, e)
-
-    -- a number past the records, and a record of another kind, are no EC's
-    pub admission-beyond : numbered caller ≡ Beyond → admission places objects number caller ≡ Refused BadCaller
-    unfolding isEc
-    admission-beyond e =
-        cases (ltb caller records)
-        (λ (l : ltb caller records ≡ true).
-        let inside = numbered-so caller (ltb-true caller records l) in
-        let z : _≡_ {A = ℕ} 0 1 = cc in absurd (omega arith))
-        (λ (l : ltb caller records ≡ false). admission-no-ec (rw l))
-
-    pub admission-other : (ec : ObjectNumber) (kind : ℕ) → numbered caller ≡ Numbered ec → kind ≡ objectAt objects (ec .0) kindWord → (kind ≡ EC → ⊥) →
-        admission places objects number caller ≡ Refused BadCaller
-    unfolding isEc
-    admission-other ec kind e is-kind other =
-        let inside = numbered-inside caller ec e in
-        admission-no-ec
-        (rw (lt-ltb caller records (inside .1))
-        (ne-eqb (objectAt objects caller kindWord) EC (λ is-ec. other (is-kind ∙ ap (λ (n : ℕ). objectAt objects n kindWord) (inside .0) ∙ is-ec))))
-
-    pub admission-found : (ec : ObjectNumber) (kind : ℕ) → numbered caller ≡ Numbered ec → kind ≡ objectAt objects (ec .0) kindWord → kind ≡ EC →
-        admission places objects number caller ≡ Ec ec
-    unfolding isEc
-    admission-found ec kind e is-kind is-ec =
-        let inside = numbered-inside caller ec e in
-        admission-ec
-        (rw (lt-ltb caller records (inside .1))
-        (eq-eqb (objectAt objects caller kindWord) EC (ap (λ (n : ℕ). objectAt objects n kindWord) (sym (inside .0)) ∙ sym is-kind ∙ is-ec))) ∙
-        ap (λ (n : ℕ). Ec (record { 0 = n })) (sym (inside .0))
-
-  -- an admitted caller is an EC, and it is who the call names
-  admitted-called : (ec : ObjectNumber) → admission places objects number caller ≡ Ec ec → (ec .0 ≡ caller) × (isEc (view places objects) caller ≡ true)
-  admitted-called ec e =
-      cases (isBuilt number)
-      (λ (b : isBuilt number ≡ true).
-      cases (isEc (view places objects) caller)
-      (λ (k : isEc (view places objects) caller ≡ true).
-      let same : record { 0 = caller } ≡ ec = ec-same (sym (admission-ec b k) ∙ e) in (sym (ap (λ (n : ObjectNumber). n .0) same), k))
-      (λ (f : isEc (view places objects) caller ≡ false). ec-refused ec BadCaller (sym e ∙ admission-no-ec b f)))
-      (λ (f : isBuilt number ≡ false). ec-refused ec BadHyp (sym e ∙ admission-not-built f))
-    where
-      ec-same : {a b : ObjectNumber} → Ec a ≡ Ec b → a ≡ b
-      ec-same e = cc
-
-  pub admitted-caller : (ec : ObjectNumber) → admission places objects number caller ≡ Ec ec → ec .0 ≡ caller
-  admitted-caller ec e = admitted-called ec e .0
-
-  pub admitted-ec : sound (tables places objects) ≡ true → (ec : ObjectNumber) → admission places objects number caller ≡ Ec ec → Called places objects (ec .0)
-  admitted-ec t ec e =
-      let admitted = admitted-called ec e in
-      subst (Called places objects) (sym (admitted .0)) (record { is-sound = t; is-ec = admitted .1 })
-
--- what a hypercall comes to where its verdict is known
-module _ (places objects : List ℕ) (c : Call) where
-  abbrev s : State
-  s = view places objects
-
-  -- a refusal leaves the tables and the block
-  refused-outcome : (reply : Reply) → judged (tables places objects) c ≡ refuse reply → (statusOf reply ≡ 0 → ⊥) →
-      record { reply = reply; tables = tables places objects; block = c .target } ≡ outcome (tables places objects) c
-  refused-outcome reply e n =
-      let is-reply : hypercallReply (tables places objects) c ≡ reply = ap replyOf e in
-      let (tables-stay, block-stays) = refused-stays .hypercall-stays (tables places objects) c (λ z. n (ap statusOf (sym is-reply) ∙ z)) in
-      λ i. record { reply = sym is-reply i; tables = sym tables-stay i; block = sym block-stays i }
-
-  -- a number that is not built
-  pub unbuilt-outcome : sound (tables places objects) ≡ true → hypercall (c .number) ≡ not-built →
-      record { reply = BadHyp; tables = tables places objects; block = c .target } ≡ outcome (tables places objects) c
-  unfolding called
-  unbuilt-outcome t e = refused-outcome BadHyp (judged-once (tables places objects) c ∙ (rw (t, e))) (λ z. omega arith)
-
-  -- a built one, by an EC: its rule decides
-  module _ (verdict : State → Call → Verdict) (is-rule : hypercall (c .number) ≡ rule verdict) (k : Called places objects (c .caller)) where
-    judged-called : judged (tables places objects) c ≡ verdict s c
-    unfolding called
-    judged-called = judged-once (tables places objects) c ∙ (rw (k .is-sound, is-rule, k .is-ec))
-
-    tables-so : hypercallTables (tables places objects) c ≡ tablesOf (run (effectsOf (verdict s c)) s)
-    unfolding hypercallTables after judged sound
-    tables-so =
-        let fit : sized (tables places objects) ≡ true = and-left (sized (tables places objects)) (soundState s) (k .is-sound) in
-        let is-verdict : rules s c ≡ verdict s c = rw fit at judged-called in
-        rw (fit, is-verdict)
-
-    pub ran-outcome : (placesAfter objectsAfter block : List ℕ) (reply : Reply) →
-        Runs verdict c (tables places objects) (tables placesAfter objectsAfter) reply → block ≡ blockOf (c .target) (verdict s c) →
-        record { reply = reply; tables = tables placesAfter objectsAfter; block = block } ≡ outcome (tables places objects) c
-    ran-outcome placesAfter objectsAfter block reply runs is-block =
-        let is-reply = runs .replies ∙ ap replyOf (sym judged-called) in
-        let is-tables = runs .leaves ∙ sym tables-so in
-        let same-block = is-block ∙ ap (blockOf (c .target)) (sym judged-called) in
-        λ i. record { reply = is-reply i; tables = is-tables i; block = same-block i }
+use Rattle.service.proofs.AdmissionLaws.{refused-outcome}
 
 -- damaged tables are refused
 pub damaged-outcome : (places objects : List ℕ) (c : Call) → sound (tables places objects) ≡ false →
     record { reply = Damaged; tables = tables places objects; block = c .target } ≡ outcome (tables places objects) c
 damaged-outcome places objects c f = refused-outcome places objects c Damaged (judged-once (tables places objects) c ∙ (rw f)) (λ z. omega arith)
-
--- who is not admitted on sound tables is refused
-module _ (places objects : List ℕ) (t : sound (tables places objects) ≡ true) (c : Call) (reply : Reply)
-    (e : admission places objects (c .number) (c .caller) ≡ Refused reply) where
-  refused-same : (other : Reply) → admission places objects (c .number) (c .caller) ≡ Refused other → other ≡ reply
-  refused-same other f = cc
-
-  by-rule : (built : Built) → hypercall (c .number) ≡ built →
-      record { reply = reply; tables = tables places objects; block = c .target } ≡ outcome (tables places objects) c
-  unfolding called
-  by-rule not-built is-built =
-      rw (sym (refused-same BadHyp (admission-not-built places objects (c .number) (c .caller) (rw is-built)))) (unbuilt-outcome places objects c t is-built)
-  by-rule (rule verdict) is-built =
-      cases (isEc (view places objects) (c .caller))
-      (λ (k : isEc (view places objects) (c .caller) ≡ true).
-      ec-refused _ reply (sym (admission-ec places objects (c .number) (c .caller) (rw is-built) k) ∙ e))
-      (λ (f : isEc (view places objects) (c .caller) ≡ false).
-      rw (sym (refused-same BadCaller (admission-no-ec places objects (c .number) (c .caller) (rw is-built) f)))
-      (refused-outcome places objects c BadCaller (judged-once (tables places objects) c ∙ (rw (t, is-built, f))) (λ z. omega arith)))
-
-  pub not-admitted : record { reply = reply; tables = tables places objects; block = c .target } ≡ outcome (tables places objects) c
-  not-admitted = by-rule (hypercall (c .number)) refl
 
 -- the census of damaged tables, and that of sound ones
 module _ (places objects : List ℕ) (place : ℕ) (list : List ℕ) where
@@ -202,28 +49,11 @@ module _ (places objects : List ℕ) (t : sound (tables places objects) ≡ true
       (and-left (eqb (length places) placeTableWords) (eqb (length objects) objectTableWords)
       (and-left (sized (tables places objects)) (soundState (view places objects)) t))
 
-  pub objects-lengths : length objects ≡ objectTableWords
-  unfolding sound sized
-  objects-lengths =
-      eqb-true (length objects) objectTableWords
-      (and-right (eqb (length places) placeTableWords) (eqb (length objects) objectTableWords)
-      (and-left (sized (tables places objects)) (soundState (view places objects)) t))
-
   pub census-links : Linked (capAt places)
   unfolding sound
   census-links =
       sound-linked (view places objects)
       (sound-facts (view places objects) (and-right (sized (tables places objects)) (soundState (view places objects)) t))
-
--- an outcome's reply and tables are the answer
-pub answers : (here after : Tables) (reply : Reply) (block : List ℕ) (c : Call) → record { reply = reply; tables = after; block = block } ≡ outcome here c →
-    record { reply = reply; tables = after } ≡ answered here c
-answers here after reply block c ran = ap (λ (o : Outcome). record { reply = o .reply; tables = o .tables }) ran
-
--- sound tables stay sound: what a hypercall on them comes to
-pub served : (here : Tables) (c : Call) (after : Outcome) → sound here ≡ true → after ≡ outcome here c → (after ≡ outcome here c) × (sound (after .tables) ≡ true)
-unfolding tablesAfter
-served here c after t e = (e, subst (λ (o : Outcome). sound (o .tables) ≡ true) (sym e) (stays-sound here (hypercalls c) t))
 
 -- what a hypercall, a census and boot come to, and what that says after any events from boot
 pub going-on : (here : Tables) (c : Call) (after : Outcome) → after ≡ outcome here c → (after ≡ outcome here c) × GoesOn here c after

@@ -3,153 +3,11 @@ ghost use mathlib.Core.Path.{_≡_};
 ghost use mathlib.Core.Bool.{true};
 ghost use mathlib.Core.List.{[]};
 ghost use Rattle.interface.specs.Places.{tables, sized};
-ghost use Rattle.interface.specs.Damage.{sound};
-ghost use Rattle.interface.specs.Verdicts.{Call};
 ghost use Rattle.interface.specs.Message.{untypedPart};
-ghost use Rattle.interface.specs.Outcomes.{callOf, Outcome, outcome, Booted};
-ghost use Rattle.interface.specs.Census.{CensusResult, censusOf};
+ghost use Rattle.interface.specs.Outcomes.{callOf, outcome, Booted};
+ghost use Rattle.interface.specs.Census.{censusOf};
 ghost use Rattle.interface.specs.Demand.{fromBoot, GoesOn, ShowsHeirs};
-ghost use Rattle.capabilities.specs.Callers.{Called};
-ghost use Rattle.kernel.specs.Admission.{isBuilt, admission};
-use descriptor::FoundObject;
-use descriptor::ObjectNumber;
 use descriptor::Reply;
-
-// The numbers of the hypercalls that are built.
-pub const CALL: u32 = 0;
-
-pub const CREATE_PD: u32 = 2;
-
-pub const CREATE_EC: u32 = 3;
-
-pub const CREATE_SC: u32 = 4;
-
-pub const CREATE_PT: u32 = 5;
-
-pub const CREATE_SM: u32 = 6;
-
-pub const REVOKE: u32 = 7;
-
-pub const LOOKUP: u32 = 8;
-
-pub const SM_CTRL: u32 = 11;
-
-// A caller that is an EC, or the refusal.
-enum Admitted {
-    Ec(ObjectNumber),
-    Refused(Reply),
-}
-
-// Whether a hypercall number is built.
-fn is_built(number: u32) -> bool
-    ensures { λ r. ⌜ r ≡ isBuilt number ⌝ }
-{
-    (number == CALL) | ((CREATE_PD <= number) & (number <= LOOKUP)) | (number == SM_CTRL)
-}
-
-// On sound tables the number is tested before the caller, and the caller before a call's own checks.
-fn admit(number: u32, caller: u32, places: &[u32], objects: &[u32]) -> Admitted
-    requires { ⌜ sound (tables (now places) (now objects)) ≡ true ⌝ }
-    ensures { λ r. ⌜ r ≡ admission (now (places .entry)) (now (objects .entry)) number caller ⌝ }
-{
-    if !is_built(number) {
-        return Admitted::Refused(Reply::BadHyp);
-    }
-    let FoundObject::Numbered(found) = ObjectNumber::found(caller) else {
-        return Admitted::Refused(Reply::BadCaller);
-    };
-    if objects::load(objects, found, objects::KIND) != objects::EC {
-        return Admitted::Refused(Reply::BadCaller);
-    }
-    Admitted::Ec(found)
-}
-
-// A hypercall by an EC on sound tables.
-fn dispatch(
-    number: u32,
-    caller: ObjectNumber,
-    first: u32,
-    second: u32,
-    third: u32,
-    fourth: u32,
-    fifth: u32,
-    sixth: u32,
-    places: &mut [u32],
-    objects: &mut [u32],
-    source: &[u32],
-    target: &mut [u32],
-) -> Reply
-    requires { ⌜ Called (now places) (now objects) (caller .0) ⌝ }
-    ensures { λ r. ⌜
-        record { reply = r; tables = tables (now (places .exit)) (now (objects .exit)); block = now (target .exit) } ≡
-        outcome (tables (now (places .entry)) (now (objects .entry)))
-        (callOf number (caller .0) first second third fourth fifth sixth (now (source .entry)) (now (target .entry))) ⌝ }
-{
-    match number {
-        CALL => portals::call(caller, first, places, objects, source, target),
-        CREATE_PD => creations::create_pd(caller, first, second, third, places, objects),
-        CREATE_EC => creations::create_ec(caller, first, second, third, fourth, places, objects),
-        CREATE_SC => creations::create_sc(caller, first, second, third, fourth, places, objects),
-        CREATE_PT => creations::create_pt(
-            caller,
-            first,
-            second,
-            third,
-            fourth,
-            fifth,
-            sixth,
-            places,
-            objects,
-        ),
-        CREATE_SM => creations::create_sm(caller, first, second, third, places, objects),
-        REVOKE => revocation::revoke(caller, first, second, places, objects),
-        LOOKUP => lookup::look_up(caller, first, places, objects),
-        SM_CTRL => semaphores::sm_ctrl(caller, first, second, places, objects),
-        _ => Reply::BadHyp,
-    }
-}
-
-// A hypercall on tables that are known to be sound: it does not test them, and they stay sound.
-pub fn serve(
-    number: u32,
-    caller: u32,
-    first: u32,
-    second: u32,
-    third: u32,
-    fourth: u32,
-    fifth: u32,
-    sixth: u32,
-    places: &mut [u32],
-    objects: &mut [u32],
-    source: &[u32],
-    target: &mut [u32],
-) -> Reply
-    requires { ⌜ sound (tables (now places) (now objects)) ≡ true ⌝ }
-    ensures { λ r. ⌜
-        record { reply = r; tables = tables (now (places .exit)) (now (objects .exit)); block = now (target .exit) } ≡
-        outcome (tables (now (places .entry)) (now (objects .entry)))
-        (callOf number caller first second third fourth fifth sixth (now (source .entry)) (now (target .entry))) ⌝ }
-    ensures { λ r. ⌜ sound (tables (now (places .exit)) (now (objects .exit))) ≡ true ⌝ }
-{
-    let admitted = admit(number, caller, places, objects);
-    match admitted {
-        Admitted::Refused(reply) => reply,
-        Admitted::Ec(ec) => dispatch(
-            number,
-            ec,
-            first,
-            second,
-            third,
-            fourth,
-            fifth,
-            sixth,
-            places,
-            objects,
-            source,
-            target,
-        ),
-    }
-}
 
 // Any hypercall: its number, the caller's EC number and the six words after it (a call takes as many as it has), the place table and the object table, the caller's message
 // block and the callee's. Damage is tested before all else.
@@ -177,7 +35,7 @@ pub fn hypercall(
         (record { reply = r; tables = tables (now (places .exit)) (now (objects .exit)); block = now (target .exit) }) ⌝ }
 {
     if soundness::is_sound(places, objects) {
-        return serve(
+        return service::serve(
             number,
             caller,
             first,

@@ -13,7 +13,7 @@ use Rattle.interface.specs.Verdicts.{Call, CALL}
 use Rattle.interface.specs.Journal.{bodyWord, recordedCall}
 use Rattle.interface.specs.Outcomes.{callOf, Outcome, outcome, Answered, answered}
 use Rattle.interface.proofs.Tables.TableLaws.{length-listed}
-use Rattle.kernel.proofs.AnswerLaws.{answers}
+use Rattle.interface.proofs.Tables.VerdictLaws.{answers}
 
 -- a CALL's recorded blocks have their length
 pub source-length : (body source : List ℕ) → source ≡ recordedCall CALL body .source → blockWords ≡ length source

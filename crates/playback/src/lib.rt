@@ -11,6 +11,7 @@ ghost use Rattle.interface.specs.Journal.{recordedCall, ended, spelled, spelled
 ghost use Rattle.journal.specs.Texts.{lineOf, lineBytes, Wrote};
 ghost use Rattle.playback.specs.Playing.{foundIn, stopOf, PlaysRecord, Plays, Stops, ReplayedAs};
 use descriptor::Reply;
+use interface::numbers;
 use journal::lines;
 use journal::lines::Line;
 use journal::records;
@@ -77,10 +78,10 @@ pub fn play(kind: u8, body: &[u8], places: &mut [u32], objects: &mut [u32]) -> R
     let fourth = records::body_word(body, 4);
     let fifth = records::body_word(body, 5);
     let sixth = records::body_word(body, 6);
-    if kind as u32 == kernel::CALL {
+    if kind as u32 == numbers::CALL {
         records::source(body, &mut source);
         records::target(body, &mut target);
-        return kernel::serve(
+        return service::serve(
             kind as u32,
             caller,
             first,
@@ -95,7 +96,7 @@ pub fn play(kind: u8, body: &[u8], places: &mut [u32], objects: &mut [u32]) -> R
             &mut target,
         );
     }
-    kernel::serve(
+    service::serve(
         kind as u32,
         caller,
         first,

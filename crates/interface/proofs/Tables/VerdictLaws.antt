@@ -1,13 +1,16 @@
 -- Laws of verdicts: what a call that is granted tells of the checks of its rule and of the state after it.
 use mathlib.Core.Path.{_≡_, refl, sym, ap, _∙_}
 use mathlib.Core.Bool.{Bool, true, false, true≢false}
+use mathlib.Core.List.{List}
+use Prim.Native.Nat.{ℕ}
 use Rattle.descriptor.specs.declared.Reply.{Reply}
 use Rattle.descriptor.specs.declared.Reply.the-variants.{Damaged, BadCaller}
-use Rattle.interface.specs.Places.{State}
+use Rattle.interface.specs.Places.{State, Tables}
 use Rattle.interface.specs.Damage.{soundState, isEc}
 use Rattle.interface.specs.Effects.{run}
 use Rattle.interface.specs.Verdicts.{Call, Verdict, refuse, grant, deliver, require_else_then_, effectsOf}
 use Rattle.interface.specs.Rules.{rule, hypercall, called, rules, after}
+use Rattle.interface.specs.Outcomes.{Outcome, outcome, answered}
 
 -- whether a verdict refuses the call
 abbrev pub refuses : Verdict → Bool
@@ -41,3 +44,8 @@ module _ (given : Verdict) (is-granted : refuses given ≡ false) where
 pub after-verdict : (s : State) (c : Call) (given : Verdict) → rules s c ≡ given → after s c ≡ run (effectsOf given) s
 unfolding after
 after-verdict s c given e = rw e
+
+-- an outcome's reply and tables are the answer
+pub answers : (here after : Tables) (reply : Reply) (block : List ℕ) (c : Call) → record { reply = reply; tables = after; block = block } ≡ outcome here c →
+    record { reply = reply; tables = after } ≡ answered here c
+answers here after reply block c ran = ap (λ (o : Outcome). record { reply = o .reply; tables = o .tables }) ran

@@ -1,6 +1,6 @@
 -- A hypercall with two empty blocks.
 use borrow.Author.Needs.{needs}
-use Rattle.kernel.proofs.AnswerLaws.{answers}
+use Rattle.interface.proofs.Tables.VerdictLaws.{answers}
 use Rattle.incident.proofs.calls.ask.Statement.{statement}
 use Rattle.incident.proofs.calls.ask.Tie as tie
 

@@ -7,8 +7,8 @@ use Rattle.interface.specs.Places.{view}
 use Rattle.interface.specs.Basics.{if_then_else_}
 use Rattle.interface.specs.Damage.{isEc}
 use Rattle.interface.specs.Rules.{Built, rule, not-built, hypercall}
-use Rattle.kernel.specs.declared.Admitted.{Admitted}
-use Rattle.kernel.specs.declared.Admitted.the-variants.{Ec, Refused}
+use Rattle.service.specs.declared.Admitted.{Admitted}
+use Rattle.service.specs.declared.Admitted.the-variants.{Ec, Refused}
 
 -- whether there is a rule
 abbrev pub hasRule : Built → Bool

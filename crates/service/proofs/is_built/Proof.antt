@@ -1,7 +1,7 @@
 -- The numbers with a rule are those that the code tests for.
-use Rattle.kernel.proofs.RuleLaws.{built-test}
-use Rattle.kernel.proofs.is_built.Statement.{statement}
-use Rattle.kernel.proofs.is_built.Tie as tie
+use Rattle.service.proofs.RuleLaws.{built-test}
+use Rattle.service.proofs.is_built.Statement.{statement}
+use Rattle.service.proofs.is_built.Tie as tie
 
 returns : tie.Need-returns
 returns c = built-test (c .args .number)

@@ -23,7 +23,7 @@ use Rattle.interface.specs.Rules.{rule, not-built, hypercall, Runs}
 use Rattle.interface.proofs.Basics.BoolLaws.{cases, and-left, and-right, both}
 use Rattle.interface.proofs.Consequences.ConsequenceLaws.{tables-back}
 use Rattle.capabilities.specs.Callers.{Called}
-use Rattle.kernel.specs.Admission.{isBuilt}
+use Rattle.service.specs.Admission.{isBuilt}
 
 -- the rules of the numbers
 module _ (number : ℕ) where

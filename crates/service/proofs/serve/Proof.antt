@@ -4,9 +4,9 @@ use denote.Ref.{now}
 use borrow.Author.Needs.{needs}
 use Rattle.interface.specs.Verdicts.{Call}
 use Rattle.interface.specs.Outcomes.{callOf}
-use Rattle.kernel.proofs.AnswerLaws.{served, not-admitted, admitted-caller, admitted-ec}
-use Rattle.kernel.proofs.serve.Statement.{statement}
-use Rattle.kernel.proofs.serve.Tie as tie
+use Rattle.service.proofs.AdmissionLaws.{served, not-admitted, admitted-caller, admitted-ec}
+use Rattle.service.proofs.serve.Statement.{statement}
+use Rattle.service.proofs.serve.Tie as tie
 
 -- the call that the arguments make
 abbrev callBy : tie.Start → Call

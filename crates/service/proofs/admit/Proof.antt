@@ -4,10 +4,10 @@ use mathlib.Core.Bool.{true}
 use native.Mathlib.Omega.{arith}
 use borrow.Author.Needs.{needs}
 use borrow.Author.Tests.{not-true, not-false}
-use Rattle.kernel.specs.Admission.{isBuilt}
-use Rattle.kernel.proofs.AnswerLaws.{admission-not-built, admission-beyond, admission-other, admission-found, objects-lengths, numbered-small}
-use Rattle.kernel.proofs.admit.Statement.{statement}
-use Rattle.kernel.proofs.admit.Tie as tie
+use Rattle.service.specs.Admission.{isBuilt}
+use Rattle.service.proofs.AdmissionLaws.{admission-not-built, admission-beyond, admission-other, admission-found, objects-lengths, numbered-small}
+use Rattle.service.proofs.admit.Statement.{statement}
+use Rattle.service.proofs.admit.Tie as tie
 
 is-built-requires : tie.Need-is-built-requires
 is-built-requires c κs = search needs

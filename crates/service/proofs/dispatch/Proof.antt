@@ -9,11 +9,11 @@ use Rattle.interface.specs.Revoke.{revoke}
 use Rattle.interface.specs.Lookup.{lookup}
 use Rattle.interface.specs.Semaphores.{smCtrl}
 use Rattle.interface.specs.Outcomes.{callOf}
-use Rattle.kernel.proofs.AnswerLaws.{unbuilt-outcome, ran-outcome}
-use Rattle.kernel.proofs.RuleLaws.{is-call, is-create-pd, is-create-ec, is-create-sc, is-create-pt, is-create-sm, is-revoke, is-lookup, is-sm-ctrl, is-not-built}
-use Rattle.kernel.proofs.RuleLaws.{create-pd-stays, create-ec-stays, create-sc-stays, create-pt-stays, create-sm-stays, revoke-stays, lookup-stays, sm-ctrl-stays, lookup-runs}
-use Rattle.kernel.proofs.dispatch.Statement.{statement}
-use Rattle.kernel.proofs.dispatch.Tie as tie
+use Rattle.service.proofs.AdmissionLaws.{unbuilt-outcome, ran-outcome}
+use Rattle.service.proofs.RuleLaws.{is-call, is-create-pd, is-create-ec, is-create-sc, is-create-pt, is-create-sm, is-revoke, is-lookup, is-sm-ctrl, is-not-built}
+use Rattle.service.proofs.RuleLaws.{create-pd-stays, create-ec-stays, create-sc-stays, create-pt-stays, create-sm-stays, revoke-stays, lookup-stays, sm-ctrl-stays, lookup-runs}
+use Rattle.service.proofs.dispatch.Statement.{statement}
+use Rattle.service.proofs.dispatch.Tie as tie
 
 -- the call that the arguments make
 abbrev callBy : tie.Start → Call

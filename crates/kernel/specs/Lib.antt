@@ -1,2 +1,0 @@
--- What the kernel's functions promise.
-pub mod Admission
