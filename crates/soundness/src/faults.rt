@@ -5,9 +5,8 @@ ghost use lib.ListN.{length};
 ghost use Rattle.words.specs.Sizes.{places, records};
 ghost use Rattle.interface.specs.Places.{Tables, objectTableWords, placeTableWords, shown};
 ghost use Rattle.interface.specs.Damage.{live-place};
-ghost use Rattle.soundness.specs.Keeping.{recordsIn, lowestFailing, firstRule, lastRule, ruleOf};
-use crate::place_rules;
-use crate::record_rules;
+ghost use Rattle.record_rules.specs.RecordKeeping.{recordsIn};
+ghost use Rattle.soundness.specs.RuleNumbers.{lowestFailing, firstRule, lastRule, ruleOf};
 use words::sizes;
 
 // The numbers of the first rule after that of lengths, and of the last.

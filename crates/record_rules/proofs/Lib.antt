@@ -1,0 +1,5 @@
+-- The laws that the functions' proofs and the crates above cite.
+pub mod LoopLaws
+pub mod RecordTests
+pub mod PdLaws
+pub mod RecordParts
