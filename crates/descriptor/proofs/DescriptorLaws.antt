@@ -7,9 +7,10 @@ use native.Mathlib.Omega.{arith}
 use lib.Dec.{ltb, leb, eqb}
 use lib.Pow.{pow-pos}
 use borrow.Author.Tests.{lt-ltb, le-ltb, le-leb, eq-eqb, ne-eqb, ltb-true, leb-true, eqb-true, eqb-false, ltb-false}
-use Rattle.words.specs.Sizes.{object, selectors, places, records, greatestOrder}
+use Rattle.words.specs.Sizes.{object, selectors, places, records, objectOrder, greatestOrder}
 use Rattle.words.specs.Ranges.{aligned}
 use Rattle.words.proofs.RangeLaws.{aligned-divides, size-divides, multiples-apart}
+use Rattle.words.proofs.SizeLaws.{selectors-object, greatest-small, selectors-few}
 use Rattle.descriptor.specs.declared.Selector.{Selector}
 use Rattle.descriptor.specs.declared.FoundSelector.the-variants.{Named, Outside}
 use Rattle.descriptor.specs.declared.Place.{Place}
@@ -32,11 +33,11 @@ selected-object space word e = rw (eq-eqb space object e)
 
 pub selected-inside : (space word : ℕ) → (space ≡ object → ⊥) → word < selectors space → selected space word ≡ Named (record { 0 = word })
 unfolding selected
-selected-inside space word n l = rw (ne-eqb space object n, lt-ltb word (selectors space) l)
+selected-inside space word n l = rw (lt-ltb word (selectors space) l, ne-eqb space object n)
 
 pub selected-outside : (space word : ℕ) → (space ≡ object → ⊥) → selectors space ≤ word → selected space word ≡ Outside
 unfolding selected
-selected-outside space word n l = rw (ne-eqb space object n, le-ltb word (selectors space) l)
+selected-outside space word n l = rw (le-ltb word (selectors space) l, ne-eqb space object n)
 
 -- a word below the number of a space's selectors names the selector of that number
 pub selected-small : (space word : ℕ) → word < selectors space → selected space word ≡ Named (record { 0 = word })
@@ -44,7 +45,7 @@ selected-small space word l = go (eqb space object) refl
   where
     go : (wraps : Bool) → eqb space object ≡ wraps → selected space word ≡ Named (record { 0 = word })
     go true e =
-        let same : word % selectors object ≡ word = mod-eq-of-lt l in
+        let same : word % selectors object ≡ word = mod-eq-of-lt (omega (arith, selectors-few space)) in
         rw same at (selected-object space word (eqb-true space object e))
     go false e = selected-inside space word (eqb-false space object e) l
 
@@ -266,21 +267,21 @@ module _ (space order base : ℕ) (w : wellFormed space order base ≡ true) whe
   order-small = leb-true order (greatestOrder space) (parts .0)
 
   -- the base as it is read is a multiple of the range's size, and the range ends in its space
-  inside : (there : Bool) → (there || leb (base + 2 ^ order) (selectors space)) ≡ true →
+  inside : (there : Bool) → eqb space object ≡ there → (there || leb (base + 2 ^ order) (selectors space)) ≡ true →
       (2 ^ order ∣ cond there (base % selectors object) base) × (cond there (base % selectors object) base + 2 ^ order ≤ selectors space)
-  inside true h =
-      let whole : 2 ^ order ∣ selectors object = size-divides order (greatestOrder space) order-small in
+  inside true e h =
+      let whole : 2 ^ order ∣ selectors object = size-divides order objectOrder (omega (arith, order-small, greatest-small space)) in
       let divides : 2 ^ order ∣ base % selectors object = dvd-mod-iff (2 ^ order) whole .1 (aligned-divides order base .0 (parts .1)) in
-      (divides, multiples-apart (2 ^ order) divides whole (omega arith))
-  inside false h = (aligned-divides order base .0 (parts .1), leb-true (base + 2 ^ order) (selectors space) h)
+      (divides, rw (selectors-object space (eqb-true space object e)) (multiples-apart (2 ^ order) divides whole (omega arith)))
+  inside false e h = (aligned-divides order base .0 (parts .1), leb-true (base + 2 ^ order) (selectors space) h)
 
   wrapped-aligned : aligned order (wrapped space base) ≡ true
   unfolding wrapped
-  wrapped-aligned = aligned-divides order (wrapped space base) .1 (inside (eqb space object) (parts .2) .0)
+  wrapped-aligned = aligned-divides order (wrapped space base) .1 (inside (eqb space object) refl (parts .2) .0)
 
   wrapped-ends : wrapped space base + 2 ^ order ≤ selectors space
   unfolding wrapped
-  wrapped-ends = inside (eqb space object) (parts .2) .1
+  wrapped-ends = inside (eqb space object) refl (parts .2) .1
 
 pub well-formed : (space order base : ℕ) → order ≤ greatestOrder space → aligned order base ≡ true → base + 2 ^ order ≤ selectors space →
     wellFormed space order base ≡ true
@@ -288,11 +289,21 @@ unfolding wellFormed
 well-formed space order base o a e =
     rw (le-leb order (greatestOrder space) o, a, le-leb (base + 2 ^ order) (selectors space) e) (or-true (eqb space object))
 
+-- a range that lies in its space has an order of at most the object space's, and ends no later than that space
+
+pub proper-order : {range : Range} → Proper range → range .order ≤ objectOrder
+proper-order {range} p = omega (arith, p .order-small, greatest-small (range .space))
+
+pub proper-end : {range : Range} → Proper range → range .base + 2 ^ range .order ≤ selectors object
+proper-end {range} p = omega (arith, p .ends-inside, selectors-few (range .space))
+
 -- a range and its descriptor make each other
 
 pub range-back : (range : Range) → Proper range → reading (describe range) ≡ Good range
 range-back range p =
     let some : 0 < 2 ^ range .order = pow-pos (range .order) in
+    let small = proper-order p in
+    let ends = proper-end p in
     let fields = fields-word (typeOf (range .space)) (range .mask) (range .order) (range .base) (omega arith) (omega arith) (omega arith) (omega arith) in
     reading-good (describe range) (range .space) (range .mask) (range .order) (range .base) (fields .0) (fields .1) (fields .2) (fields .3)
     (well-formed (range .space) (range .order) (range .base) (p .order-small) (p .base-aligned) (p .ends-inside))

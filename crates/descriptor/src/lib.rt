@@ -7,7 +7,6 @@ ghost use mathlib.Core.Bool.{_&&_};
 ghost use Prim.Native.Nat.{_+_, _*_, _^_, _%_, _<_, _≤_};
 ghost use lib.Dec.{eqb, leb, ltb};
 ghost use Rattle.words.specs.Sizes.{domains, spaces, object, selectors, stride, places, placeWords, records, recordWords, placeOf, domainOf, spaceOf, selectorOf};
-ghost use Rattle.words.specs.Ranges.{rounded};
 ghost use Rattle.descriptor.specs.Numbers.{selected, placed, linkOf, linked, numbered};
 ghost use Rattle.descriptor.specs.Descriptors.{kept, describe, reading, matched, wellFormed, Proper};
 ghost use Rattle.descriptor.specs.Replies.{statusOf, answerOf};
@@ -45,7 +44,7 @@ impl Selector {
     pub fn wrapped(word: u32) -> Selector
         ensures { λ r. ⌜ r .0 ≡ word % selectors object ⌝ }
     {
-        Selector(word % sizes::SELECTORS)
+        Selector(word % sizes::OBJECTS)
     }
 
     // The selector that a word names in a space: object selectors wrap, and a page's or a port's is below the number of selectors of its space.
@@ -53,9 +52,9 @@ impl Selector {
         ensures { λ r. ⌜ r ≡ selected space word ⌝ }
     {
         if space == sizes::OBJECT {
-            return FoundSelector::Named(Selector(word % sizes::SELECTORS));
+            return FoundSelector::Named(Selector(word % sizes::OBJECTS));
         }
-        if sizes::SELECTORS <= word {
+        if sizes::PAGES <= word {
             return FoundSelector::Outside;
         }
         FoundSelector::Named(Selector(word))
@@ -143,14 +142,6 @@ impl Place {
         ensures { λ r. ⌜ r .0 ≡ self .0 + offset ⌝ }
     {
         Place(self.0 + offset)
-    }
-
-    // The place where the range of an order around this one begins: a space begins at a multiple of its size, so places round as selectors do.
-    pub fn rounded_down(self, order: u32) -> Place
-        requires { ⌜ order < 32 ⌝ }
-        ensures { λ r. ⌜ r .0 ≡ rounded order (self .0) ⌝ }
-    {
-        Place(ranges::round_down(order, self.0))
     }
 
     // Whether the place comes before another.
@@ -375,9 +366,9 @@ fn is_range(space: u32, order: u32, base: u32) -> bool
     requires { ⌜ (order < 32) × (base < 2 ^ 20) ⌝ }
     ensures { λ r. ⌜ r ≡ wellFormed space order base ⌝ }
 {
-    (order <= sizes::GREATEST_ORDER)
+    (order <= sizes::greatest_order(space))
         & ranges::is_aligned(order, base)
-        & ((space == sizes::OBJECT) | (base + ranges::size(order) <= sizes::SELECTORS))
+        & ((space == sizes::OBJECT) | (base + ranges::size(order) <= sizes::selectors(space)))
 }
 
 // A range descriptor, as its word. Every word of type 0 is the null descriptor.
@@ -427,7 +418,7 @@ impl Descriptor {
         if space == sizes::OBJECT {
             return Reading::Good(Range {
                 space,
-                base: base % sizes::SELECTORS,
+                base: base % sizes::OBJECTS,
                 order,
                 mask,
             });

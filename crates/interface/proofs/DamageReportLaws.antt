@@ -152,7 +152,7 @@ never-lengths s (rule ∷ rules) h =
     let at : AtPlace (rule .number) (place-failure s rule) ≡ Lengths = rw (f, t) at h in let z : _≡_ {A = ℕ} 0 1 = cc in omega arith)
     (λ (g : ltb (place-failure s rule) places ≡ false). never-lengths s rules (rw (f, g) at h)))
 
-lengths-wrong : (tables : Tables) → (fault tables ≡ Lengths) ↔ ((length (tables .places) ≡ 6144) × (length (tables .objects) ≡ 320) → ⊥)
+lengths-wrong : (tables : Tables) → (fault tables ≡ Lengths) ↔ ((length (tables .places) ≡ placeTableWords) × (length (tables .objects) ≡ objectTableWords) → ⊥)
 unfolding fault sized
 lengths-wrong tables =
     let places-right = eqb (length (tables .places)) placeTableWords in

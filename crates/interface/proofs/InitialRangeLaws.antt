@@ -6,13 +6,13 @@ use mathlib.Core.List.{List, [], _∷_}
 use native.Mathlib.Omega.{arith}
 use lib.Dec.{eqb}
 use borrow.Author.Tests.{eqb-true, eq-eqb, ltb-true, ne-eqb}
-use Rattle.words.specs.Sizes.{domains, object, domainOf, places}
+use Rattle.words.specs.Sizes.{domains, object, selectors, domainOf, places}
 use Rattle.words.proofs.PlaceLaws.{domain-back}
 use Rattle.descriptor.specs.Descriptors.{Proper}
 use Rattle.descriptor.specs.declared.Range.{Range}
 use Rattle.descriptor.specs.declared.Reading.{Reading}
 use Rattle.descriptor.specs.declared.Reading.the-variants.{Null, Malformed, Good}
-use Rattle.descriptor.proofs.DescriptorLaws.{good-proper}
+use Rattle.descriptor.proofs.DescriptorLaws.{good-proper, proper-end}
 use Rattle.interface.specs.Basics.{word, listed, anyBelow}
 use Rattle.interface.specs.Places.{Cap, State, live, nothing, PD, kindWord, domainWord, kindOf, parentless, greatestOf}
 use Rattle.interface.specs.Boot.{hypervisor}
@@ -111,8 +111,8 @@ module _ (s : State) (c : Call) (k : Sound s) (e : isEc s (c .caller) ≡ true) 
 
   -- the offsets of an initial range
   module _ (range : Range) (proper : Proper range) where
-    selector-small : (i : ℕ) → i < 2 ^ range .order → range .base + i < 64
-    selector-small i l = omega (arith, proper .ends-inside)
+    selector-small : (i : ℕ) → i < 2 ^ range .order → range .base + i < selectors object
+    selector-small i l = omega (arith, proper-end proper)
 
     destination-domain : (i : ℕ) → i < 2 ^ range .order → domainOf (initialDestination s range i) ≡ nextDomain s
     destination-domain i l = domain-back (nextDomain s) object (range .base + i) (omega arith) (selector-small i l)

@@ -6,6 +6,7 @@ use mathlib.Core.Bool.{Bool, true, false, cond, _&&_, _||_, true≢false}
 use native.Mathlib.Omega.{arith}
 use lib.Dec.{eqb, leb}
 use borrow.Author.Tests.{leb-false, lt-leb, eqb-true, eqb-false, ne-eqb}
+use Rattle.words.specs.Sizes.{object, objectOrder, pageOrder, greatestOrder}
 use Rattle.descriptor.specs.Descriptors.{wellFormed}
 use Rattle.descriptor.specs.declared.Range.{Range}
 use Rattle.descriptor.specs.declared.Reading.the-variants.{Null, Malformed, Good}
@@ -32,13 +33,22 @@ read-so {A} {B} {C} {D} false true true objects ends range n y f a d =
     ))
     (λ (h : (objects || ends) ≡ false). rw h (λ e. (y refl, inr (inr (d .0 h))), λ x. refl))
 
+-- the order of every whole space is 6
+each-order : (space : ℕ) → greatestOrder space ≡ 6
+each-order space = go (eqb space object)
+  where
+    go : (there : Bool) → cond there objectOrder pageOrder ≡ 6
+    go true = refl
+    go false = refl
+
 pub malformed-exactly : MalformedExactly
 unfolding reading wellFormed
 malformed-exactly word =
     let type = typeField word in
     let order = orderField word in
     let base = baseField word in
-    read-so (eqb type 0) (leb order 6) (eqb (base % 2 ^ order) 0) (eqb (type - 1) 2) (leb (base + 2 ^ order) 64) _
+    rw (each-order (type - 1))
+    (read-so (eqb type 0) (leb order 6) (eqb (base % 2 ^ order) 0) (eqb (type - 1) 2) (leb (base + 2 ^ order) 64) _
     (λ t n. n (eqb-true type 0 t)) (eqb-false type 0) (leb-false order 6, lt-leb order 6) (eqb-false (base % 2 ^ order) 0, ne-eqb (base % 2 ^ order) 0) (
       λ h. (
         λ (three : type ≡ 3). eqb-false (type - 1) 2 (or-none-left (eqb (type - 1) 2) (leb (base + 2 ^ order) 64) h) (omega arith),
@@ -46,4 +56,4 @@ malformed-exactly word =
       ),
       λ x.
           neither (eqb (type - 1) 2) (leb (base + 2 ^ order) 64) (ne-eqb (type - 1) 2 (λ (two : type - 1 ≡ 2). x .0 (omega arith))) (lt-leb (base + 2 ^ order) 64 (x .1)),
-    )
+    ))

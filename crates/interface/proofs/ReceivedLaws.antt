@@ -97,7 +97,7 @@ module _ (s : State) (c : Call) where
     block-long (suc n) = simp length-set (block-long n)
 
     -- the words below the items are as before them
-    block-below : (n number : ℕ) → number < 64 - 2 * n → word (blockAfter n) number ≡ word copied number
+    block-below : (n number : ℕ) → number < blockWords - 2 * n → word (blockAfter n) number ≡ word copied number
     unfolding carried
     block-below zero number l = refl
     block-below (suc n) number l =
@@ -263,7 +263,7 @@ module _ (s : State) (c : Call) (answer : ℕ) (block : List ℕ) (granted : Cal
   all-copied : length (untypedCopied (c .source) (c .target)) ≡ blockWords
   all-copied = copied-long (c .source) (c .target) (granted .source-long) (granted .target-long) untyped-few
 
-  below-items : (number : ℕ) → number < 64 - 2 * itemCount c → word (movedBefore s c (itemCount c) .block) number ≡ word (untypedCopied (c .source) (c .target)) number
+  below-items : (number : ℕ) → number < blockWords - 2 * itemCount c → word (movedBefore s c (itemCount c) .block) number ≡ word (untypedCopied (c .source) (c .target)) number
   below-items = block-below s c all-copied (itemCount c)
 
   words-delivered : WordsDelivered s c (movedBefore s c (itemCount c) .block)

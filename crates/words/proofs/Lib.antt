@@ -1,4 +1,5 @@
--- The laws of permissions, ranges and places that the functions' proofs and the crates above cite.
+-- The laws of permissions, ranges, sizes and places that the functions' proofs and the crates above cite.
 pub mod BitLaws
 pub mod RangeLaws
+pub mod SizeLaws
 pub mod PlaceLaws

@@ -1,13 +1,14 @@
 -- Laws of places: a place is read back as the domain, the space and the selector that it is made of.
-use Prim.Native.Nat.{ℕ, suc, _+_, _%_, _≤_, _<_}
+use Prim.Native.Nat.{ℕ, suc, _+_, _%_, _≤_, _<_, _∣_}
 use mathlib.Core.Path.{_≡_, refl}
 use mathlib.Core.Bool.{Bool, true, false, cond}
 use native.Mathlib.Decide.{le-ind}
-use native.Mathlib.Nat.{le-refl, le-add-right, le-antisymm, le-of-suc-le-suc, lt-of-not-le}
+use native.Mathlib.Nat.{le-refl, le-add-right, le-antisymm, le-of-suc-le-suc, lt-of-not-le, dvd-add, dvd-mod-iff}
 use native.Mathlib.Omega.{arith}
 use lib.Dec.{ltb}
-use borrow.Author.Tests.{ltb-true, ltb-false}
+use borrow.Author.Tests.{ltb-true, ltb-false, lt-ltb, le-ltb}
 use Rattle.words.specs.Sizes.{memory, io, object, domains, spaces, selectors, start, stride, places, placeOf, domainOf, spaceOf, selectorOf}
+use Rattle.words.proofs.RangeLaws.{multiples-apart}
 
 -- a space ends before each later one begins
 pub start-rises : (space later : ℕ) → space < later → start space + selectors space ≤ start later
@@ -63,7 +64,41 @@ pub space-small : (place : ℕ) → spaceOf place < spaces
 space-small place = inside place .known
 
 pub selector-small : (place : ℕ) → selectorOf place < selectors (spaceOf place)
-selector-small place = omega (arith, inside place .below)
+selector-small place = omega (arith, inside place .from, inside place .below)
 
 pub domain-small : (place : ℕ) → place < places → domainOf place < domains
 domain-small place h = omega arith
+
+-- an aligned run begins before a multiple of its width where any of it does
+run-before : (width first offset end : ℕ) → width ∣ first → width ∣ end → offset < width → ltb (first + offset) end ≡ ltb first end
+run-before width first offset end a b l = go (ltb first end) refl
+  where
+    go : (before : Bool) → ltb first end ≡ before → ltb (first + offset) end ≡ before
+    go true t = let apart = multiples-apart width a b (ltb-true first end t) in lt-ltb (first + offset) end (omega arith)
+    go false f = let past = ltb-false first end f in le-ltb (first + offset) end (omega arith)
+
+-- an aligned run of places lies in one space of one domain, if its width divides the number of selectors of each space
+module _ (width first offset : ℕ) (of-pages : width ∣ selectors memory) (of-objects : width ∣ selectors object) (aligned : width ∣ first) (l : offset < width) where
+  of-stride : width ∣ stride
+  of-stride = dvd-add width (dvd-add width of-pages of-pages) of-objects
+
+  of-rest : width ∣ first % stride
+  of-rest = dvd-mod-iff width of-stride .1 aligned
+
+  rest-ends : first % stride + width ≤ stride
+  rest-ends = multiples-apart width of-rest of-stride (omega arith)
+
+  run-rest : (first + offset) % stride ≡ first % stride + offset
+  run-rest = omega (arith, rest-ends)
+
+  pub run-domain : domainOf (first + offset) ≡ domainOf first
+  run-domain = omega (arith, rest-ends)
+
+  pub run-space : spaceOf (first + offset) ≡ spaceOf first
+  unfolding spaceOf
+  run-space =
+      rw (
+        run-rest,
+        run-before width (first % stride) offset (start io) of-rest of-pages l,
+        run-before width (first % stride) offset (start object) of-rest (dvd-add width of-pages of-pages) l,
+      )

@@ -1,8 +1,8 @@
--- The sizes of the layout. Every number of it stands here, once, under a name.
+-- The sizes of the layout, under the names by which the other definitions cite them: each number is said once, and what follows from others is computed.
 use Prim.Native.Nat.{ℕ, zero, suc, _+_, _-_, _*_, _/_, _%_, _^_, _<_}
 use mathlib.Core.Path.{_≡_}
-use mathlib.Core.Bool.{Bool, cond}
-use lib.Dec.{ltb}
+use mathlib.Core.Bool.{cond}
+use lib.Dec.{eqb, ltb}
 
 -- domains are numbered from 0: the hypervisor's is 0, the root's 1
 abbrev pub domains : ℕ
@@ -21,11 +21,18 @@ object = 2
 abbrev pub spaces : ℕ
 spaces = 3
 
+-- the order of the range that is the whole object space, and of the one that is the whole memory space or I/O space
+abbrev pub objectOrder : ℕ
+objectOrder = 6
+
+abbrev pub pageOrder : ℕ
+pageOrder = 6
+
 -- the order of the range that is a whole space: the greatest that a range there may have
 abbrev pub greatestOrder : ℕ → ℕ
-greatestOrder space = 6
+greatestOrder space = cond (eqb space object) objectOrder pageOrder
 
--- the number of selectors of a space; object selectors and event bases wrap at that of the object space
+-- the number of selectors of a space: as many pages and ports, for the memory and the I/O space; object selectors and event bases wrap at that of the object space
 abbrev pub selectors : ℕ → ℕ
 selectors space = 2 ^ greatestOrder space
 

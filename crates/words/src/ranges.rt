@@ -1,7 +1,7 @@
 // Ranges: 2 ^ order selectors from an aligned base on.
 ghost use mathlib.Core.Path.{_≡_};
-ghost use Prim.Native.Nat.{_+_, _^_, _<_, _≤_};
-ghost use Rattle.words.specs.Ranges.{aligned, rounded, raised};
+ghost use Prim.Native.Nat.{_^_, _<_};
+ghost use Rattle.words.specs.Ranges.{aligned, rounded};
 
 // How many selectors a range of an order has.
 pub fn size(order: u32) -> u32
@@ -25,12 +25,4 @@ pub fn round_down(order: u32, number: u32) -> u32
     ensures { λ r. ⌜ r ≡ rounded order number ⌝ }
 {
     number - number % size(order)
-}
-
-// The base of one side of a delegation, raised by the hotspot where its order is the larger one.
-pub fn raise(order: u32, smaller: u32, hotspot: u32, base: u32) -> u32
-    requires { ⌜ (order < 32) × (smaller ≤ order) × (base + 2 ^ order < 2 ^ 32) ⌝ }
-    ensures { λ r. ⌜ r ≡ raised order smaller hotspot base ⌝ }
-{
-    base + round_down(smaller, hotspot % size(order))
 }

@@ -1,7 +1,8 @@
-// The sizes of the layout. Every number of it stands here, once, under a name (specs/Sizes.antt has the same names and what they mean).
+// The sizes of the layout for the code: each number is said once, and what follows from others is computed. specs/Sizes.antt says what each means; a table has as many words
+// as its places or records have together.
 ghost use mathlib.Core.Path.{_≡_};
 ghost use Prim.Native.Nat.{_<_};
-ghost use Rattle.words.specs.Sizes.{spaces, start};
+ghost use Rattle.words.specs.Sizes.{spaces, start, greatestOrder, selectors};
 
 pub const DOMAINS: u32 = 8;
 
@@ -11,29 +12,57 @@ pub const IO: u32 = 1;
 
 pub const OBJECT: u32 = 2;
 
-// The number of selectors of a space, and the order of the range that is the whole of it.
-pub const SELECTORS: u32 = 64;
+// The orders of whole spaces and the numbers of their selectors: of the object space, and of the memory and the I/O space.
+pub const OBJECT_ORDER: u32 = 6;
 
-pub const GREATEST_ORDER: u32 = 6;
+pub const OBJECTS: u32 = 1 << OBJECT_ORDER;
+
+pub const PAGE_ORDER: u32 = 6;
+
+pub const PAGES: u32 = 1 << PAGE_ORDER;
 
 // Where the spaces begin among the places of their domain, and how many places that has.
-pub const IO_START: u32 = 64;
+pub const IO_START: u32 = PAGES;
 
-pub const OBJECT_START: u32 = 128;
+pub const OBJECT_START: u32 = IO_START + PAGES;
 
-pub const STRIDE: u32 = 192;
+pub const STRIDE: u32 = OBJECT_START + OBJECTS;
 
-pub const PLACES: u32 = 1536;
+pub const PLACES: u32 = DOMAINS * STRIDE;
 
 pub const PLACE_WORDS: usize = 4;
+
+pub const PLACE_TABLE_WORDS: usize = PLACE_WORDS * PLACES as usize;
 
 pub const RECORDS: u32 = 64;
 
 pub const RECORD_WORDS: usize = 5;
 
+pub const OBJECT_TABLE_WORDS: usize = RECORD_WORDS * RECORDS as usize;
+
 pub const GREATEST_DEPTH: u32 = 31;
 
 pub const BLOCK_WORDS: usize = 64;
+
+// The order of the range that is a whole space.
+pub fn greatest_order(space: u32) -> u32
+    ensures { λ r. ⌜ r ≡ greatestOrder space ⌝ }
+{
+    if space == OBJECT {
+        return OBJECT_ORDER;
+    }
+    PAGE_ORDER
+}
+
+// The number of selectors of a space.
+pub fn selectors(space: u32) -> u32
+    ensures { λ r. ⌜ r ≡ selectors space ⌝ }
+{
+    if space == OBJECT {
+        return OBJECTS;
+    }
+    PAGES
+}
 
 // Where a space begins among the places of its domain.
 pub fn space_start(space: u32) -> u32

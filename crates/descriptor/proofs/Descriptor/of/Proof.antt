@@ -1,5 +1,6 @@
 -- The fields of a proper range are small enough that no part of the sum leaves a word.
 use native.Mathlib.Omega.{arith}
+use Rattle.descriptor.proofs.DescriptorLaws.{proper-order, proper-end}
 use Rattle.descriptor.proofs.Descriptor.of.Statement.{statement}
 use Rattle.descriptor.proofs.Descriptor.of.Tie as tie
 
@@ -13,16 +14,16 @@ add-t7 : tie.Need-add-t7
 add-t7 c = omega arith
 
 mul-t8 : tie.Need-mul-t8
-mul-t8 c = omega arith
+mul-t8 c = omega (arith, proper-order (c .pre))
 
 add-t9 : tie.Need-add-t9
-add-t9 c = omega arith
+add-t9 c = omega (arith, proper-order (c .pre))
 
 mul-t10 : tie.Need-mul-t10
-mul-t10 c = omega arith
+mul-t10 c = omega (arith, proper-end (c .before .pre))
 
 add-t11 : tie.Need-add-t11
-add-t11 c = omega arith
+add-t11 c = omega (arith, proper-order (c .before .pre), proper-end (c .before .pre))
 
 returns : tie.Need-returns
 returns c = omega arith

@@ -1,10 +1,11 @@
 -- The offset is below the size of the range, which ends in its space.
 use native.Mathlib.Omega.{arith}
+use Rattle.descriptor.proofs.DescriptorLaws.{proper-end}
 use Rattle.descriptor.proofs.Range.at.Statement.{statement}
 use Rattle.descriptor.proofs.Range.at.Tie as tie
 
 add-t3 : tie.Need-add-t3
-add-t3 c = omega arith
+add-t3 c = omega (arith, proper-end (c .before .pre .0))
 
 returns : tie.Need-returns
 returns c = omega arith
