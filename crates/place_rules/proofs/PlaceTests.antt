@@ -1,31 +1,31 @@
 -- The rules of places as the code tests them: what each definition gives on each way out of the function that tests it.
-use Prim.Native.Nat.{ℕ, zero, suc, _+_, _-_, _*_, _/_, _%_, _^_, _≤_, _<_}
+use Prim.Native.Nat.{ℕ, _+_, _-_, _*_, _%_, _^_, _≤_, _<_, _∣_}
 use mathlib.Core.Path.{_≡_, refl, sym, ap, _∙_}
 use mathlib.Core.Bool.{Bool, true, false, not, _&&_, _||_, and-false}
 use mathlib.Core.List.{List}
+use native.Mathlib.Nat.{dvd-of-mod-eq-zero}
 use native.Mathlib.Omega.{arith}
+use lib.Bits.{bitAnd, bitOr, bitXor, and-le-l, and-le-r, or-add-and, xor-add-and, xor-self}
 use lib.Dec.{eqb, leb, ltb}
-use lib.ListN.{length}
-use borrow.Author.Tests.{ltb-true, leb-true, leb-false, lt-ltb, le-ltb, le-leb, lt-leb, eqb-true, eq-eqb, ne-eqb, not-false}
-use Rattle.words.specs.Sizes.{domains, memory, io, object, spaces, selectors, start, stride, placeOf, domainOf, spaceOf, selectorOf, places, records, greatestDepth}
-use Rattle.words.specs.Fields.{bits}
-use Rattle.words.specs.Permissions.{within, permits}
-use Rattle.words.proofs.PlaceLaws.{domain-back, space-back, selector-back, made-so, space-small, selector-small}
+use borrow.Author.Tests.{ltb-true, ltb-false, leb-true, leb-false, lt-ltb, le-ltb, le-leb, lt-leb, eqb-true, eqb-false, eq-eqb, ne-eqb, not-false}
+use Rattle.words.specs.Sizes.{memory, io, object, spaces, pageOrder, selectors, start, stride, placeOf, domainOf, spaceOf, selectorOf, places, records, greatestDepth}
+use Rattle.words.specs.Permissions.{within}
+use Rattle.words.proofs.PlaceLaws.{domain-back, space-back, selector-back, made-so, selector-small, run-domain, run-space}
 use Rattle.descriptor.specs.declared.Place.{Place}
 use Rattle.descriptor.specs.declared.FoundPlace.{FoundPlace}
 use Rattle.descriptor.specs.declared.FoundPlace.the-variants.{At, Nowhere}
 use Rattle.descriptor.specs.Numbers.{linked}
 use Rattle.descriptor.proofs.DescriptorLaws.{linked-out, linked-inside}
-use Rattle.interface.specs.Places.{Cap, State, Tables, live, nothing, parentless, free, placeTableWords, objectAt, shown, kindOf, greatest}
+use Rattle.interface.specs.Basics.{if_then_else_}
+use Rattle.interface.specs.Places.{Cap, State, Tables, live, nothing, parentless, free, SC, SM, objectAt, shown, kindOf, greatestOf, greatest}
 use Rattle.interface.specs.Boot.{hypervisor, cpus, rootPd, bootRecord, hypervisorCap, bootCap}
 use Rattle.interface.specs.Damage.{between1, sameCap, fixed-place, hasPd, null-place, isResource, live-place, shallow}
-use Rattle.interface.specs.Basics.{if_then_else_, allBelow}
-use Rattle.interface.proofs.BelowLaws.{all-below-at}
-use Rattle.interface.proofs.BoolLaws.{cases, and-right, both, same-test, or-none-left, or-none-right, each-of-four}
-use Rattle.interface.proofs.PlaceFacts.{same-cap, some-live, more-live}
-use Rattle.place_rules.specs.PlaceKeeping.{parentFits, lineageKeeps, placeKeeps, Around}
-use Rattle.record_rules.specs.RecordKeeping.{Numbered, Kept}
+use Rattle.interface.proofs.BoolLaws.{cases, and-left, and-right, both, same-test, or-none-left, or-none-right, each-of-four}
+use Rattle.interface.proofs.PlaceFacts.{same-cap, more-live}
+use Rattle.record_rules.specs.RecordKeeping.{Numbered}
 use Rattle.record_rules.proofs.PdLaws.{home-counted}
+use Rattle.place_rules.specs.PlaceKeeping.{parentFits, lineageKeeps, greatestAllowed, placeKeeps, whole, part, partsBefore, extentOf, group, Around, Stretch, Passed}
+use Rattle.place_rules.specs.declared.Extent.{Extent}
 
 -- a link word that leads to a place is one more than its number, and one that leads nowhere is 0 or past the places
 module _ (word : ℕ) {found : FoundPlace} where
@@ -42,45 +42,95 @@ module _ (word : ℕ) {found : FoundPlace} where
 pub link-small : (word : ℕ) (parent : Place) (found : FoundPlace) → found ≡ linked word → found ≡ At parent → parent .0 < places
 link-small word parent found is-found leads = linked-inside word parent (sym is-found ∙ leads) .1
 
--- the space of a place from its number alone
-space-at : (domain space selector : ℕ) → space < spaces → selector < selectors space →
-    placeOf domain space selector / selectors space % spaces ≡ space
-space-at domain zero selector h l =
-    let block : placeOf domain zero selector / selectors zero ≡ domain * 3 = omega arith in rw block (omega arith)
-space-at domain (suc zero) selector h l =
-    let block : placeOf domain (suc zero) selector / selectors (suc zero) ≡ domain * 3 + 1 = omega arith in rw block (omega arith)
-space-at domain (suc (suc zero)) selector h l =
-    let block : placeOf domain (suc (suc zero)) selector / selectors (suc (suc zero)) ≡ domain * 3 + 2 = omega arith in rw block (omega arith)
-space-at domain (suc (suc (suc n))) selector h l = absurd (omega arith)
+-- the parts of its domain that come before a place are those of the places before it and fewer than one place's more, so they tell its space
+module _ (place : ℕ) (l : place < places) where
+  parts-so : partsBefore place ≡ part * (place % stride) + (part * stride - whole) * domainOf place
+  parts-so = omega arith
 
-pub space-so : (place : ℕ) → place / selectors object % spaces ≡ spaceOf place
-space-so place =
-    rw (made-so place) at (space-at (domainOf place) (spaceOf place) (selectorOf place) (space-small place) (selector-small place))
+  pub extent-tells : (space : ℕ) → space < spaces →
+      (leb (part * start space) (partsBefore place) && ltb (partsBefore place) (part * (start space + selectors space))) ≡ eqb (spaceOf place) space
+  extent-tells space h =
+      let before = partsBefore place in
+      let from = part * start space in
+      let end = part * (start space + selectors space) in
+      same-test (leb from before && ltb before end) (eqb (spaceOf place) space)
+      (λ (t : (leb from before && ltb before end) ≡ true).
+      let late : from ≤ before = leb-true from before (and-left (leb from before) (ltb before end) t) in
+      let early : before < end = ltb-true before end (and-right (leb from before) (ltb before end) t) in
+      let rest-from : start space ≤ place % stride = omega (arith, parts-so) in
+      let rest-before : place % stride < start space + selectors space = omega (arith, parts-so) in
+      let same : placeOf (domainOf place) space (place % stride - start space) ≡ place = omega arith in
+      let small : place % stride - start space < selectors space = omega arith in
+      eq-eqb (spaceOf place) space (rw same at (space-back (domainOf place) space (place % stride - start space) h small)))
+      (λ (t : eqb (spaceOf place) space ≡ true).
+      let there : spaceOf place ≡ space = eqb-true (spaceOf place) space t in
+      let made : domainOf place * stride + start space + (place % stride - start space) ≡ place = rw there at (made-so place) in
+      let small : place % stride - start space < selectors space = rw there at (selector-small place) in
+      both (leb from before) (ltb before end) (le-leb from before (omega (arith, parts-so))) (lt-ltb before end (omega (arith, parts-so))))
 
--- spaces take turns: every third block is of the first space, and those of another come as many blocks later as its number says
-abbrev turns : ℕ → ℕ
-turns space = 2396745 * 2 ^ space % 2 ^ 32
+pub extent-space : (extent : Extent) (space : ℕ) → extent ≡ extentOf space → extent .space ≡ space
+extent-space extent space e = ap (λ (x : Extent). x .space) e
 
-abbrev bitOf : Bool → ℕ
-bitOf told = if told then 1 else 0
+pub extent-own : (extent : Extent) (space : ℕ) → extent ≡ extentOf space → extent ≡ extentOf (extent .space)
+extent-own extent space e = rw e
 
-bit-tells : (told : Bool) → eqb (bitOf told) 1 ≡ told
-bit-tells true = refl
-bit-tells false = refl
+pub of-extent : (place number : ℕ) (extent : Extent) → number ≡ place → place < places → extent .space < spaces → extent ≡ extentOf (extent .space) →
+    (leb (extent .from) (partsBefore number) && ltb (partsBefore number) (extent .end)) ≡ eqb (spaceOf place) (extent .space)
+of-extent place number extent numbered l h is-extent =
+    let from : extent .from ≡ part * start (extent .space) = ap (λ (e : Extent). e .from) is-extent in
+    let end : extent .end ≡ part * (start (extent .space) + selectors (extent .space)) = ap (λ (e : Extent). e .end) is-extent in
+    rw (numbered, from, end) (extent-tells place l (extent .space) h)
 
-abbrev takesTurn : ℕ → ℕ → Bool
-takesTurn space block = eqb (bits block block (turns space)) (bitOf (eqb (block % spaces) space))
+-- words that differ in no bit are the same, gathered word by word
+gathered-word : (differing held expected : ℕ) → eqb (bitOr differing (bitXor held expected)) 0 ≡ (eqb differing 0 && eqb held expected)
+gathered-word differing held expected =
+    let difference = bitXor held expected in
+    same-test (eqb (bitOr differing difference) 0) (eqb differing 0 && eqb held expected)
+    (λ (t : eqb (bitOr differing difference) 0 ≡ true).
+    let none = eqb-true (bitOr differing difference) 0 t in
+    let sum = or-add-and differing difference in
+    let same = xor-add-and held expected in
+    let few = and-le-l differing difference in
+    let few-r = and-le-r differing difference in
+    let held-most = and-le-l held expected in
+    let expected-most = and-le-r held expected in
+    both (eqb differing 0) (eqb held expected) (eq-eqb differing 0 (omega arith)) (eq-eqb held expected (omega arith)))
+    (λ (t : (eqb differing 0 && eqb held expected) ≡ true).
+    let none = eqb-true differing 0 (and-left (eqb differing 0) (eqb held expected) t) in
+    let same = eqb-true held expected (and-right (eqb differing 0) (eqb held expected) t) in
+    rw (none, same, xor-self expected))
 
-all-take-turns : allBelow spaces (λ space. allBelow (domains * spaces) (takesTurn space)) ≡ true
-unfolding allBelow
-all-take-turns = refl
-
-pub turn-tells : (place space : ℕ) → place < places → space < spaces → permits (place / selectors object) (turns space) ≡ eqb (spaceOf place) space
-turn-tells place space l h =
-    let block = place / selectors object in
-    let all = all-below-at spaces (λ n. allBelow (domains * spaces) (takesTurn n)) all-take-turns space h in
-    let here = eqb-true (bits block block (turns space)) (bitOf (eqb (block % spaces) space)) (all-below-at (domains * spaces) (takesTurn space) all block (omega arith)) in
-    rw here (bit-tells (eqb (block % spaces) space)) ∙ ap (λ (n : ℕ). eqb n space) (space-so place)
+pub gathered : (differing held expected r : Cap) → r .resource ≡ bitOr (differing .resource) (bitXor (held .resource) (expected .resource)) →
+    r .permissions ≡ bitOr (differing .permissions) (bitXor (held .permissions) (expected .permissions)) →
+    r .parent ≡ bitOr (differing .parent) (bitXor (held .parent) (expected .parent)) →
+    r .depth ≡ bitOr (differing .depth) (bitXor (held .depth) (expected .depth)) → sameCap r nothing ≡ (sameCap differing nothing && sameCap held expected)
+gathered differing held expected r a b d e =
+    rw (
+      a,
+      b,
+      d,
+      e,
+      gathered-word (differing .resource) (held .resource) (expected .resource),
+      gathered-word (differing .permissions) (held .permissions) (expected .permissions),
+      gathered-word (differing .parent) (held .parent) (expected .parent),
+      gathered-word (differing .depth) (held .depth) (expected .depth),
+    )
+    (in-pairs (eqb (differing .resource) 0) (eqb (differing .permissions) 0) (eqb (differing .parent) 0) (eqb (differing .depth) 0)
+    (eqb (held .resource) (expected .resource)) (eqb (held .permissions) (expected .permissions)) (eqb (held .parent) (expected .parent))
+    (eqb (held .depth) (expected .depth)))
+  where
+    in-pairs : (a b c d e f g h : Bool) → ((a && e) && (b && f) && (c && g) && (d && h)) ≡ ((a && b && c && d) && (e && f && g && h))
+    in-pairs true true true true e f g h = refl
+    in-pairs false b c d e f g h = refl
+    in-pairs true false c d true f g h = refl
+    in-pairs true false c d false f g h = refl
+    in-pairs true true false d true true g h = refl
+    in-pairs true true false d true false g h = refl
+    in-pairs true true false d false f g h = refl
+    in-pairs true true true false true true true h = refl
+    in-pairs true true true false true true false h = refl
+    in-pairs true true true false true false g h = refl
+    in-pairs true true true false false f g h = refl
 
 -- domain 0 at boot
 boot-there : (space selector : ℕ) → space < spaces → selector < selectors space → bootCap (placeOf hypervisor space selector) ≡ hypervisorCap space selector
@@ -88,13 +138,13 @@ unfolding bootCap
 boot-there space selector h l = rw (selector-back hypervisor space selector h l, domain-back hypervisor space selector h l, space-back hypervisor space selector h l)
 
 module _ (place : ℕ) (cap : Cap) where
-  pub boot-memory : place < start io → cap ≡ parentless place 7 → cap ≡ bootCap place
+  pub boot-memory : place < start io → cap ≡ parentless place (greatest memory free) → cap ≡ bootCap place
   unfolding hypervisorCap
   boot-memory l e =
       let same : placeOf hypervisor memory place ≡ place = omega arith in
       e ∙ sym (rw same at (boot-there memory place (omega arith) (omega arith)))
 
-  pub boot-io : start io ≤ place → place < start object → cap ≡ parentless (place - start io) 1 → cap ≡ bootCap place
+  pub boot-io : start io ≤ place → place < start object → cap ≡ parentless (place - start io) (greatest io free) → cap ≡ bootCap place
   unfolding hypervisorCap
   boot-io g l e =
       let same : placeOf hypervisor io (place - start io) ≡ place = omega arith in
@@ -106,14 +156,14 @@ module _ (place : ℕ) (cap : Cap) where
         let same : placeOf hypervisor object (place - start object) ≡ place = omega arith in
         rw same at (boot-there object (place - start object) (omega arith) (omega arith))
 
-    pub boot-idle : place - start object < cpus → cap ≡ parentless (place - start object) 1 → cap ≡ bootCap place
+    pub boot-idle : place - start object < cpus → cap ≡ parentless (place - start object) (greatestOf SC) → cap ≡ bootCap place
     unfolding hypervisorCap bootRecord
     boot-idle b e =
         let early : ltb (place - start object) cpus ≡ true = lt-ltb (place - start object) cpus b in
         let inside : ltb (place - start object) rootPd ≡ true = lt-ltb (place - start object) rootPd (omega arith) in
         e ∙ (rw (boot-selector, inside, early))
 
-    pub boot-interrupt : cpus ≤ place - start object → place - start object < rootPd → cap ≡ parentless (place - start object) 3 → cap ≡ bootCap place
+    pub boot-interrupt : cpus ≤ place - start object → place - start object < rootPd → cap ≡ parentless (place - start object) (greatestOf SM) → cap ≡ bootCap place
     unfolding hypervisorCap bootRecord
     boot-interrupt d b e =
         let late : ltb (place - start object) cpus ≡ false = le-ltb (place - start object) cpus d in
@@ -124,18 +174,42 @@ module _ (place : ℕ) (cap : Cap) where
     unfolding hypervisorCap
     boot-rest d e = e ∙ (rw (boot-selector, le-ltb (place - start object) rootPd d))
 
--- its stretches: resources rise by one from a start, with the same permissions
-pub memory-stretch : (p : ℕ) → 0 ≤ p → p < start io → bootCap p ≡ parentless (p - 0) 7
-memory-stretch p g l = let same : p - 0 ≡ p = omega arith in rw same (sym (boot-memory p (parentless p 7) l refl))
+-- its stretches
+pub memory-stretch : Stretch 0 0 (start io) (greatest memory free)
+memory-stretch =
+    record {
+      after-begin = omega arith;
+      in-order = omega arith;
+      in-domain = omega arith;
+      as-boot = λ p g l. let same : p - 0 ≡ p = omega arith in rw same (sym (boot-memory p (parentless p (greatest memory free)) l refl));
+    }
 
-pub io-stretch : (p : ℕ) → start io ≤ p → p < start object → bootCap p ≡ parentless (p - start io) 1
-io-stretch p g l = sym (boot-io p (parentless (p - start io) 1) g l refl)
+pub io-stretch : Stretch (start io) (start io) (start object) (greatest io free)
+io-stretch =
+    record {
+      after-begin = omega arith;
+      in-order = omega arith;
+      in-domain = omega arith;
+      as-boot = λ p g l. sym (boot-io p (parentless (p - start io) (greatest io free)) g l refl);
+    }
 
-pub idle-stretch : (p : ℕ) → start object ≤ p → p < start object + cpus → bootCap p ≡ parentless (p - start object) 1
-idle-stretch p g l = sym (boot-idle p (parentless (p - start object) 1) g (omega arith) (omega arith) refl)
+pub idle-stretch : Stretch (start object) (start object) (start object + cpus) (greatestOf SC)
+idle-stretch =
+    record {
+      after-begin = omega arith;
+      in-order = omega arith;
+      in-domain = omega arith;
+      as-boot = λ p g l. sym (boot-idle p (parentless (p - start object) (greatestOf SC)) g (omega arith) (omega arith) refl);
+    }
 
-pub interrupt-stretch : (p : ℕ) → start object + cpus ≤ p → p < start object + rootPd → bootCap p ≡ parentless (p - start object) 3
-interrupt-stretch p g l = sym (boot-interrupt p (parentless (p - start object) 3) (omega arith) (omega arith) (omega arith) (omega arith) refl)
+pub interrupt-stretch : Stretch (start object) (start object + cpus) (start object + rootPd) (greatestOf SM)
+interrupt-stretch =
+    record {
+      after-begin = omega arith;
+      in-order = omega arith;
+      in-domain = omega arith;
+      as-boot = λ p g l. sym (boot-interrupt p (parentless (p - start object) (greatestOf SM)) (omega arith) (omega arith) (omega arith) (omega arith) refl);
+    }
 
 -- domain 0 is the first stride
 pub first-stride : (place : ℕ) → ltb place stride ≡ eqb (domainOf place) hypervisor
@@ -149,20 +223,36 @@ first-stride place =
 pub past-hypervisor : (place : ℕ) → stride ≤ place → eqb (domainOf place) hypervisor ≡ false
 past-hypervisor place l = sym (first-stride place) ∙ le-ltb place stride l
 
--- a live place that is not turned down at once is at home and names a number below those of selectors
-module _ (home : Bool) (resource : ℕ) (kept : (not home || leb (selectors object) resource) ≡ false) where
-  pub home-kept : home ≡ true
-  home-kept = not-false home (or-none-left (not home) (leb (selectors object) resource) kept)
-
-  pub resource-small : resource < records
-  resource-small = leb-false (selectors object) resource (or-none-right (not home) (leb (selectors object) resource) kept)
-
--- whether a number is a resource's
+-- the greatest permissions allowed of a number in a space
 module _ (s : State) (space resource : ℕ) where
-  no-resource : selectors object ≤ resource → isResource s space resource ≡ false
-  no-resource l =
-      cases (eqb space object) (λ (t : eqb space object ≡ true). rw (t, le-ltb resource records l))
-      (λ (f : eqb space object ≡ false). rw (f, le-ltb resource records l))
+  pub allowed-object : (kind most : ℕ) → space ≡ object → resource < records → kind ≡ kindOf s resource → most ≡ greatestOf kind → most ≡ greatestAllowed s space resource
+  allowed-object kind most e l known is-most =
+      rw (is-most, known, e, lt-ltb resource records l)
+      (cases (eqb (kindOf s resource) free)
+      (λ (f : eqb (kindOf s resource) free ≡ true). rw (f, eqb-true (kindOf s resource) free f))
+      (λ (u : eqb (kindOf s resource) free ≡ false). rw u))
+
+  pub no-object : space ≡ object → records ≤ resource → 0 ≡ greatestAllowed s space resource
+  no-object e l = rw (e, le-ltb resource records l)
+
+  pub allowed-page : (most : ℕ) → space < spaces → (space ≡ object → ⊥) → resource < 2 ^ pageOrder → most ≡ greatest space free → most ≡ greatestAllowed s space resource
+  allowed-page most h n l is-most =
+      is-most ∙
+      rw (ne-eqb space object n, lt-ltb resource (2 ^ pageOrder) l)
+      (cases (eqb space memory) (λ (m : eqb space memory ≡ true). rw m)
+      (λ (m : eqb space memory ≡ false).
+      let i : space ≡ io = omega (arith, eqb-false space memory m) in
+      rw (m, eq-eqb space io i)))
+
+  pub no-page : (space ≡ object → ⊥) → 2 ^ pageOrder ≤ resource → 0 ≡ greatestAllowed s space resource
+  no-page n l = rw (ne-eqb space object n, le-ltb resource (2 ^ pageOrder) l)
+
+  -- a number that is no resource's allows no permission
+  allowed-so : (permissions : ℕ) → 0 < permissions →
+      (isResource s space resource && leb permissions (greatest space (kindOf s resource))) ≡ leb permissions (greatestAllowed s space resource)
+  allowed-so permissions some =
+      cases (isResource s space resource) (λ (t : isResource s space resource ≡ true). rw t)
+      (λ (f : isResource s space resource ≡ false). rw f (sym (lt-leb permissions 0 some)))
 
 module _ (s : State) (p : ℕ) where
   pub fixed-past : stride ≤ p → true ≡ fixed-place s p
@@ -220,18 +310,6 @@ module _ (s : State) (p : ℕ) where
         let some : eqb (s .caps p .parent) 0 ≡ false = rw held at (ne-eqb (cap .parent) 0 n) in
         parent-past space cap (cap .parent - 1) (link-past (cap .parent) n is-found none) ∙ rw (a, held, some)
 
-    -- a null place
-    pub null-so : (null : Bool) → stride ≤ p → cap .permissions ≡ 0 → null ≡ (live cap || sameCap cap nothing) → null ≡ placeKeeps s p
-    unfolding placeKeeps fixed-place null-place live-place shallow
-    null-so null l e h =
-        let dead : live cap ≡ false = rw e in
-        let only : null ≡ sameCap cap nothing = h ∙ rw dead in
-        cases (sameCap cap nothing)
-        (λ (t : sameCap cap nothing ≡ true).
-        let zeros : cap ≡ nothing = same-cap cap nothing t in
-        only ∙ t ∙ rw (← held, zeros, past-hypervisor p l))
-        (λ (f : sameCap cap nothing ≡ false). only ∙ f ∙ rw (← held, dead, f, past-hypervisor p l))
-
     -- a null place and rule 11, and rules 10 and 12
     pub live-null : cap .permissions ≡ 0 → true ≡ live-place s p
     unfolding live-place
@@ -246,65 +324,27 @@ module _ (s : State) (p : ℕ) where
     shallow-test = rw held
 
     -- a live place
-    pub live-so : (lives : Bool) → stride ≤ p → (cap .permissions ≡ 0 → ⊥) → lives ≡ live-place s p → (lives && leb (cap .depth) greatestDepth) ≡ placeKeeps s p
-    unfolding placeKeeps fixed-place null-place shallow
-    live-so lives l n h = rw (h, ← held, some-live (cap .permissions) n, past-hypervisor p l)
+    module _ (home : Bool) (most space : ℕ) (alive : 0 < cap .permissions) (at-home : home ≡ (eqb (domainOf p) hypervisor || hasPd s (domainOf p)))
+        (in-space : space ≡ spaceOf p) (bound : most ≡ greatestAllowed s space (cap .resource)) where
+      bound-there : (isResource s (spaceOf p) (cap .resource) && leb (cap .permissions) (greatest (spaceOf p) (kindOf s (cap .resource)))) ≡ leb (cap .permissions) most
+      bound-there = allowed-so s (spaceOf p) (cap .resource) (cap .permissions) alive ∙ rw (bound, in-space)
 
-    module _ (home : Bool) (alive : 0 < cap .permissions) (at-home : home ≡ (eqb (domainOf p) hypervisor || hasPd s (domainOf p))) where
-      pub live-out : (not home || leb (selectors object) (cap .resource)) ≡ true → false ≡ live-place s p
+      pub live-out : (not home || ltb most (cap .permissions)) ≡ true → false ≡ live-place s p
       unfolding live-place
       live-out h =
           rw (← held, lt-ltb 0 (cap .permissions) alive, ← at-home)
           (cases home
           (λ (t : home ≡ true).
-          let past : selectors object ≤ cap .resource = leb-true (selectors object) (cap .resource) (rw t at h) in
-          rw (t, no-resource s (spaceOf p) (cap .resource) past))
+          let above : most < cap .permissions = ltb-true most (cap .permissions) (rw t at h) in
+          rw (t, bound-there, lt-leb (cap .permissions) most above))
           (λ (f : home ≡ false). rw f))
 
-      module _ (space kind most : ℕ) (kept : (not home || leb (selectors object) (cap .resource)) ≡ false) (in-space : space ≡ spaceOf p)
-          (known : kind ≡ kindOf s (cap .resource)) (bound : most ≡ greatest space kind) where
-        bound-there : most ≡ greatest (spaceOf p) (kindOf s (cap .resource))
-        bound-there = rw (bound, known, in-space)
-
-        pub live-above : most < cap .permissions → false ≡ live-place s p
-        unfolding live-place
-        live-above b =
-            rw (
-              ← held,
-              lt-ltb 0 (cap .permissions) alive,
-              ← at-home,
-              home-kept home (cap .resource) kept,
-              ← bound-there,
-              lt-leb (cap .permissions) most b,
-              and-false (isResource s (spaceOf p) (cap .resource)),
-            )
-
-        -- a capability with permissions for an object names no free record
-        named : cap .permissions ≤ most → isResource s (spaceOf p) (cap .resource) ≡ true
-        named b =
-            let inside : ltb (cap .resource) records ≡ true = lt-ltb (cap .resource) records (resource-small home (cap .resource) kept) in
-            cases (eqb (spaceOf p) object)
-            (λ (o : eqb (spaceOf p) object ≡ true).
-            cases (eqb (kindOf s (cap .resource)) free)
-            (λ (f : eqb (kindOf s (cap .resource)) free ≡ true).
-            let none : most ≡ 0 = bound-there ∙ rw (eqb-true (spaceOf p) object o, eqb-true (kindOf s (cap .resource)) free f) in
-            absurd (omega arith))
-            (λ (u : eqb (kindOf s (cap .resource)) free ≡ false). rw (o, inside, u)))
-            (λ (n : eqb (spaceOf p) object ≡ false). rw (n, inside))
-
-        pub live-lineage : (lineage : Bool) → cap .permissions ≤ most → lineage ≡ lineageKeeps s p → lineage ≡ live-place s p
-        unfolding live-place
-        live-lineage lineage b h =
-            h ∙
-            rw (
-              ← held,
-              lt-ltb 0 (cap .permissions) alive,
-              ← at-home,
-              home-kept home (cap .resource) kept,
-              named b,
-              ← bound-there,
-              le-leb (cap .permissions) most b,
-            )
+      pub live-lineage : (lineage : Bool) → (not home || ltb most (cap .permissions)) ≡ false → lineage ≡ lineageKeeps s p → lineage ≡ live-place s p
+      unfolding live-place
+      live-lineage lineage kept h =
+          let is-home : home ≡ true = not-false home (or-none-left (not home) (ltb most (cap .permissions)) kept) in
+          let within-bound : cap .permissions ≤ most = ltb-false most (cap .permissions) (or-none-right (not home) (ltb most (cap .permissions)) kept) in
+          h ∙ rw (← held, lt-ltb 0 (cap .permissions) alive, ← at-home, is-home, bound-there, le-leb (cap .permissions) most within-bound)
 
 -- a domain past 0 has a PD exactly where the place is below the stride of the last PD's domain
 home-below : {table : List ℕ} {pds : ℕ} → Numbered table pds → (caps : ℕ → Cap) (p : ℕ) → stride ≤ p →
@@ -320,47 +360,40 @@ home-below {pds = pds} numbered caps p l =
     lt-ltb p (stride * (pds + 1)) (omega arith)) ∙
     home-counted numbered caps (domainOf p) (domainOf p) refl)
 
--- the places of a space have its number among all spaces in common
-module _ (number p : ℕ) (g : selectors object * number ≤ p) (l : p < selectors object * (number + 1)) where
-  space-there : number % spaces ≡ spaceOf p
-  space-there = let block : p / selectors object ≡ number = omega arith in rw block at (space-so p)
+-- the places of a group have its space and its domain in common
+module _ (first p : ℕ) (aligned : first % group ≡ 0) (from : first ≤ p) (before : p < first + group) where
+  abbrev offset : ℕ
+  offset = p - first
 
-  home-there : {table : List ℕ} {pds : ℕ} → Numbered table pds → (caps : ℕ → Cap) → spaces ≤ number →
-      ltb number (spaces * (pds + 1)) ≡ (eqb (domainOf p) hypervisor || hasPd (record { caps = caps; objects = objectAt table }) (domainOf p))
-  home-there {pds = pds} numbered caps b =
-      same-test (ltb number (spaces * (pds + 1))) (ltb p (stride * (pds + 1)))
-      (λ (t : ltb number (spaces * (pds + 1)) ≡ true).
-      let few : number < spaces * (pds + 1) = ltb-true number (spaces * (pds + 1)) t in
-      lt-ltb p (stride * (pds + 1)) (omega arith))
-      (λ (t : ltb p (stride * (pds + 1)) ≡ true).
-      let few : p < stride * (pds + 1) = ltb-true p (stride * (pds + 1)) t in
-      lt-ltb number (spaces * (pds + 1)) (omega arith)) ∙
-      home-below numbered caps p (omega arith)
+  there : first + offset ≡ p
+  there = omega arith
 
-  pub homeless-there : {table : List ℕ} {pds : ℕ} → Numbered table pds → (caps : ℕ → Cap) → spaces ≤ number → spaces * (pds + 1) ≤ number →
+  of-group : (n : ℕ) → n % group ≡ 0 → group ∣ n
+  of-group n e = dvd-of-mod-eq-zero group e
+
+  group-space : spaceOf p ≡ spaceOf first
+  group-space = rw there at (run-space group first offset (of-group (selectors memory) refl) (of-group (selectors object) refl) (of-group first aligned) (omega arith))
+
+  group-domain : domainOf p ≡ domainOf first
+  group-domain = rw there at (run-domain group first offset (of-group (selectors memory) refl) (of-group (selectors object) refl) (of-group first aligned) (omega arith))
+
+  -- so it has a PD exactly where the group is below the stride of the last PD's domain
+  group-home : {table : List ℕ} {pds : ℕ} → Numbered table pds → (caps : ℕ → Cap) → stride ≤ first →
+      ltb first (stride * (pds + 1)) ≡ (eqb (domainOf p) hypervisor || hasPd (record { caps = caps; objects = objectAt table }) (domainOf p))
+  group-home numbered caps past = rw group-domain (home-below numbered caps first past)
+
+  pub domain-without-pd : {table : List ℕ} {pds : ℕ} → Numbered table pds → (caps : ℕ → Cap) → stride ≤ first → stride * (pds + 1) ≤ first →
       (eqb (domainOf p) hypervisor || hasPd (record { caps = caps; objects = objectAt table }) (domainOf p)) ≡ false
-  homeless-there {pds = pds} numbered caps b past = sym (home-there numbered caps b) ∙ le-ltb number (spaces * (pds + 1)) past
+  domain-without-pd {pds = pds} numbered caps past late = sym (group-home numbered caps past) ∙ le-ltb first (stride * (pds + 1)) late
 
-  pub around-home : (tables : Tables) {pds : ℕ} → length (tables .places) ≡ placeTableWords → Kept (tables .objects) pds → spaces ≤ number → number < domains * spaces →
-      number < spaces * (pds + 1) → Around tables p (number % spaces) true
-  around-home tables {pds} long kept b d few =
+  pub around-home : (tables : Tables) {pds : ℕ} → Passed tables pds first → first < places → first < stride * (pds + 1) → Around tables p (spaceOf first) true
+  around-home tables {pds} passed l few =
       record {
-        places-long = long;
-        objects-long = kept .numbered .long;
+        places-long = passed .places-long;
+        objects-long = passed .kept .numbered .long;
         is-place = omega arith;
-        in-space = space-there;
-        at-home = sym (lt-ltb number (spaces * (pds + 1)) few) ∙ home-there (kept .numbered) (shown tables .caps) b;
-      }
-
-  pub around-there : (tables : Tables) {pds : ℕ} → length (tables .places) ≡ placeTableWords → Kept (tables .objects) pds → spaces ≤ number → number < domains * spaces →
-      Around tables p (number % spaces) (ltb number (spaces * (pds + 1)))
-  around-there tables long kept b d =
-      record {
-        places-long = long;
-        objects-long = kept .numbered .long;
-        is-place = omega arith;
-        in-space = space-there;
-        at-home = home-there (kept .numbered) (shown tables .caps) b;
+        in-space = sym group-space;
+        at-home = sym (lt-ltb first (stride * (pds + 1)) few) ∙ group-home (passed .kept .numbered) (shown tables .caps) (passed .past-hypervisor);
       }
 
 -- a place that keeps the rules together keeps each

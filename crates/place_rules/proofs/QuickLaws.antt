@@ -7,7 +7,7 @@ use native.Mathlib.Nat.{add-zero}
 use native.Mathlib.Omega.{arith}
 use lib.Dec.{eqb, leb, ltb}
 use borrow.Author.Tests.{ltb-true, ltb-false, lt-ltb, le-ltb, leb-true, le-leb, eqb-true, eqb-false, eq-eqb, ne-eqb}
-use Rattle.words.specs.Sizes.{object, stride, domainOf, spaceOf, places, placeWords, records, greatestDepth}
+use Rattle.words.specs.Sizes.{object, start, stride, domainOf, spaceOf, places, placeWords, records, greatestDepth}
 use Rattle.words.proofs.BitLaws.{within-le}
 use Rattle.interface.specs.Basics.{word, allBelow}
 use Rattle.descriptor.specs.declared.Place.{Place}
@@ -16,14 +16,14 @@ use Rattle.descriptor.specs.declared.FoundPlace.the-variants.{At, Nowhere}
 use Rattle.descriptor.specs.Numbers.{linked}
 use Rattle.descriptor.proofs.DescriptorLaws.{linked-inside}
 use Rattle.interface.specs.Places.{Cap, State, Tables, live, nothing, free, capAt, shown, kindOf, greatestOf, greatest}
-use Rattle.interface.specs.Boot.{hypervisor}
+use Rattle.interface.specs.Boot.{hypervisor, rootPd}
 use Rattle.interface.specs.Damage.{sameCap, fixed-place, hasPd, null-place, isResource, parentless-place, live-place, shallow}
 use Rattle.interface.proofs.BoolLaws.{cases, and-left, and-right, same-test, each-of-four}
 use Rattle.interface.proofs.BelowLaws.{all-below-at, all-below}
 use Rattle.interface.proofs.PlaceFacts.{same-cap, null-cap, null-test, depth-small, ChildOf, child-facts, child-test, Lineage, no-parent, child, LivePlace, live-facts, live-test}
-use Rattle.place_rules.specs.PlaceKeeping.{placesIn, placeKeeps, parentFits, quickKeeps, group, blank}
+use Rattle.place_rules.specs.PlaceKeeping.{placesIn, placeKeeps, parentFits, quickKeeps, group, blank, Passed}
 use Rattle.record_rules.specs.RecordKeeping.{Kept}
-use Rattle.place_rules.proofs.PlaceTests.{link-before, link-past, past-hypervisor, fixed-past, parent-past, place-parts}
+use Rattle.place_rules.proofs.PlaceTests.{link-before, link-past, past-hypervisor, fixed-past, fixed-null, parent-past, place-parts, domain-without-pd}
 use Rattle.place_rules.proofs.HypervisorLaws.{hypervisor-below}
 
 -- whether the domain of a place is 0 or has a PD
@@ -260,17 +260,17 @@ quick-decides tables kept fixed =
 pub quick-start : (s : State) → allBelow stride (quickKeeps s) ≡ true
 quick-start s = all-below stride (quickKeeps s) (quick-early s)
 
--- a place of a blank group is null
-blank-null : (table : List ℕ) (first p : ℕ) → first ≤ p → p < first + group → blank table first ≡ true → capAt table p ≡ nothing
+-- a run of places whose words are all 0 has null places
+blank-null : (table : List ℕ) (first count p : ℕ) → first ≤ p → p < first + count → blank table first count ≡ true → capAt table p ≡ nothing
 unfolding capAt
-blank-null table first p from before empty =
+blank-null table first count p from before empty =
     let zeros : (k : ℕ) → k < placeWords → word table (placeWords * p + k) ≡ 0 =
     λ k b.
     let i = placeWords * (p - first) + k in
     let there : placeWords * first + i ≡ placeWords * p + k = omega arith in
     rw there at
     (eqb-true (word table (placeWords * first + i)) 0
-    (all-below-at (placeWords * group) (λ j. eqb (word table (placeWords * first + j)) 0) empty i (omega arith))) in
+    (all-below-at (placeWords * count) (λ j. eqb (word table (placeWords * first + j)) 0) empty i (omega arith))) in
     let resource : word table (placeWords * p) ≡ 0 = rw (add-zero (placeWords * p)) at (zeros 0 (omega arith)) in
     λ i.
     record {
@@ -279,19 +279,6 @@ blank-null table first p from before empty =
       parent = zeros 2 (omega arith) i;
       depth = zeros 3 (omega arith) i;
     }
-
--- so the places of a blank group pass
-pub blank-keeps : (tables : Tables) (first : ℕ) → stride ≤ first → blank (tables .places) first ≡ true →
-    allBelow first (quickKeeps (shown tables)) ≡ true → allBelow (first + group) (quickKeeps (shown tables)) ≡ true
-blank-keeps tables first past empty before =
-    let s = shown tables in
-    all-below (first + group) (quickKeeps s)
-    (λ p l.
-    cases (ltb p first) (λ (b : ltb p first ≡ true). all-below-at first (quickKeeps s) before p (ltb-true p first b))
-    (λ (f : ltb p first ≡ false).
-    let same : s .caps p ≡ nothing = blank-null (tables .places) first p (ltb-false p first f) l empty in
-    let from = ltb-false p first f in
-    sym (quick-null s p (omega arith) (s .caps p) refl nothing (sameCap (s .caps p) nothing) (ap (λ (cap : Cap). cap .permissions) same) refl refl) ∙ rw same))
 
 -- the words of a null place are 0
 null-word : (table : List ℕ) (p k : ℕ) → k < placeWords → capAt table p ≡ nothing → word table (placeWords * p + k) ≡ 0
@@ -302,9 +289,57 @@ null-word table p (suc (suc zero)) l e = ap (λ (cap : Cap). cap .parent) e
 null-word table p (suc (suc (suc zero))) l e = ap (λ (cap : Cap). cap .depth) e
 null-word table p (suc (suc (suc (suc k)))) l e = absurd (omega arith)
 
+-- so the words of a run of null places are all 0
+null-blank : (table : List ℕ) (first count : ℕ) → ((p : ℕ) → first ≤ p → p < first + count → capAt table p ≡ nothing) → blank table first count ≡ true
+null-blank table first count nulls =
+    all-below (placeWords * count) (λ i. eqb (word table (placeWords * first + i)) 0)
+    (λ i l.
+    let p = first + i / placeWords in
+    let there : placeWords * p + i % placeWords ≡ placeWords * first + i = omega arith in
+    let inside : p < first + count = omega arith in
+    let from : first ≤ p = omega arith in
+    let small : i % placeWords < placeWords = omega arith in
+    eq-eqb (word table (placeWords * first + i)) 0 (rw there at (null-word table p (i % placeWords) small (nulls p from inside))))
+
+-- domain 0 past its objects is null at boot, so it is as at boot exactly where its words are 0
+pub rest-decides : (table : List ℕ) → allBelow (start object + rootPd) (fixed-place (placesIn table)) ≡ true →
+    blank table (start object + rootPd) (stride - (start object + rootPd)) ≡ allBelow stride (fixed-place (placesIn table))
+rest-decides table before =
+    let rest = start object + rootPd in
+    let count = stride - rest in
+    same-test (blank table rest count) (allBelow stride (fixed-place (placesIn table)))
+    (λ (t : blank table rest count ≡ true).
+    all-below stride (fixed-place (placesIn table))
+    (λ p l.
+    cases (ltb p rest) (λ (b : ltb p rest ≡ true). all-below-at rest (fixed-place (placesIn table)) before p (ltb-true p rest b))
+    (λ (f : ltb p rest ≡ false).
+    let from : rest ≤ p = ltb-false p rest f in
+    let null : capAt table p ≡ nothing = blank-null table rest count p from (omega arith) t in
+    sym (fixed-null (placesIn table) p true (capAt table p) nothing from l refl refl (rw null)))))
+    (λ (t : allBelow stride (fixed-place (placesIn table)) ≡ true).
+    null-blank table rest count
+    (λ p from inside.
+    let l : p < stride = omega arith in
+    same-cap (capAt table p) nothing
+    (fixed-null (placesIn table) p (sameCap (capAt table p) nothing) (capAt table p) nothing from l refl refl refl ∙
+    all-below-at stride (fixed-place (placesIn table)) t p l)))
+
+-- the places of a blank group pass
+pub blank-keeps : (tables : Tables) {pds first : ℕ} → Passed tables pds first → blank (tables .places) first group ≡ true →
+    allBelow (first + group) (quickKeeps (shown tables)) ≡ true
+blank-keeps tables {first = first} before empty =
+    let s = shown tables in
+    all-below (first + group) (quickKeeps s)
+    (λ p l.
+    cases (ltb p first) (λ (b : ltb p first ≡ true). all-below-at first (quickKeeps s) (before .passed) p (ltb-true p first b))
+    (λ (f : ltb p first ≡ false).
+    let same : s .caps p ≡ nothing = blank-null (tables .places) first group p (ltb-false p first f) l empty in
+    let past : stride ≤ p = omega (arith, before .past-hypervisor, ltb-false p first f) in
+    sym (quick-null s p past (s .caps p) refl nothing (sameCap (s .caps p) nothing) (ap (λ (cap : Cap). cap .permissions) same) refl refl) ∙ rw same))
+
 -- a place of a domain without a PD passes only where it is null
-homeless-null : (s : State) (p : ℕ) → stride ≤ p → homely s p ≡ false → quickKeeps s p ≡ true → s .caps p ≡ nothing
-homeless-null s p past away kept =
+without-pd-null : (s : State) (p : ℕ) → stride ≤ p → homely s p ≡ false → quickKeeps s p ≡ true → s .caps p ≡ nothing
+without-pd-null s p past away kept =
     cases (eqb (s .caps p .permissions) 0)
     (λ (t : eqb (s .caps p .permissions) 0 ≡ true).
     same-cap (s .caps p) nothing
@@ -324,23 +359,17 @@ homeless-null s p past away kept =
     (sym kept ∙ sym (quick-child s p past (s .caps p) refl (spaceOf p) (homely s p) alive refl refl fits (eqb-false (s .caps p .parent) 0 g) refl) ∙ rw away))))
 
 -- so a group there that is not blank does not pass
-pub homeless-broken : (tables : Tables) (first : ℕ) (answer : Bool) → stride ≤ first → ((p : ℕ) → first ≤ p → p < first + group → homely (shown tables) p ≡ false) →
-    answer ≡ blank (tables .places) first → answer ≡ false → false ≡ allBelow (first + group) (quickKeeps (shown tables))
-homeless-broken tables first answer past away is-answer no-answer =
+pub without-pd-broken : (tables : Tables) {pds first : ℕ} (answer : Bool) → Passed tables pds first → stride * (pds + 1) ≤ first →
+    answer ≡ blank (tables .places) first group → answer ≡ false → false ≡ allBelow (first + group) (quickKeeps (shown tables))
+without-pd-broken tables {first = first} answer before late is-answer no-answer =
     let s = shown tables in
     cases (allBelow (first + group) (quickKeeps s))
     (λ (t : allBelow (first + group) (quickKeeps s) ≡ true).
-    let empty : blank (tables .places) first ≡ true =
-    all-below (placeWords * group) (λ i. eqb (word (tables .places) (placeWords * first + i)) 0)
-    (λ i l.
-    let p = first + i / placeWords in
-    let there : placeWords * p + i % placeWords ≡ placeWords * first + i = omega arith in
-    let inside : p < first + group = omega arith in
-    let from : first ≤ p = omega arith in
-    let small : i % placeWords < placeWords = omega arith in
-    eq-eqb (word (tables .places) (placeWords * first + i)) 0
-    (rw there at
-    (null-word (tables .places) p (i % placeWords) small
-    (homeless-null s p (omega arith) (away p from inside) (all-below-at (first + group) (quickKeeps s) t p inside))))) in
+    let empty : blank (tables .places) first group ≡ true =
+    null-blank (tables .places) first group
+    (λ p from inside.
+    without-pd-null s p (omega (arith, before .past-hypervisor))
+    (domain-without-pd first p (before .aligned) from inside (before .kept .numbered) (s .caps) (before .past-hypervisor) late)
+    (all-below-at (first + group) (quickKeeps s) t p inside)) in
     absurd (true≢false (sym empty ∙ sym is-answer ∙ no-answer)))
     (λ (f : allBelow (first + group) (quickKeeps s) ≡ false). sym f)

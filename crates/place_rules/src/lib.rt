@@ -1,41 +1,42 @@
 // The rules that places keep.
 ghost use mathlib.Core.Path.{_≡_};
-ghost use Prim.Native.Nat.{ℕ, _+_, _-_, _*_, _<_, _≤_};
+ghost use Prim.Native.Nat.{ℕ, _+_, _-_, _*_, _%_, _<_, _≤_};
 ghost use mathlib.Core.Bool.{true, _&&_, _||_};
 ghost use lib.Dec.{eqb, leb, ltb};
 ghost use lib.ListN.{length};
-ghost use Rattle.words.specs.Sizes.{domains, object, spaces, selectors, start, stride, spaceOf, places, records};
+ghost use Rattle.words.specs.Sizes.{spaces, stride, spaceOf, places, records};
 ghost use Rattle.interface.specs.Basics.{allBelow};
-ghost use Rattle.interface.specs.Places.{nothing, kindWord, objectAt, objectTableWords, placeTableWords, live, parentless, capAt, shown, greatestOf, Tables};
-ghost use Rattle.interface.specs.Boot.{rootPd, bootCap};
+ghost use Rattle.interface.specs.Places.{nothing, kindWord, objectAt, objectTableWords, placeTableWords, live, capAt, tables, view, greatestOf};
 ghost use Rattle.interface.specs.Damage.{sameCap, fixed-place, live-place};
-ghost use Rattle.place_rules.specs.PlaceKeeping.{placesIn, placeKeeps, parentFits, lineageKeeps, quickKeeps, group, blank, Around};
-ghost use Rattle.record_rules.specs.RecordKeeping.{Kept};
+ghost use Rattle.record_rules.specs.RecordKeeping.{recordsIn, Kept};
+ghost use Rattle.place_rules.specs.PlaceKeeping.{placesIn, placeKeeps, parentFits, lineageKeeps, greatestAllowed, quickKeeps, whole, part, extentOf, group, blank, Around, Stretch, Passed};
 use descriptor::Cap;
 use descriptor::FoundPlace;
 use descriptor::Place;
 use words::permissions;
 use words::sizes;
 
-// The number of spaces of a domain, and of all domains.
-const SPACES: u32 = 3;
+// Where domain 0's capabilities for the idle SCs end, and those for the interrupts; and how many places follow, which are null.
+const IDLE_END: u32 = sizes::OBJECT_START + objects::CPUS;
 
-const ALL_SPACES: u32 = 24;
+const INTERRUPTS_END: u32 = sizes::OBJECT_START + boot::ROOT_PD;
 
-// Spaces take turns: the blocks of places that are of the first space, a bit for each block. Those of another space come as many blocks later as its number says.
-const TURNS: u32 = 2396745;
+const LEFT_NULL: u32 = sizes::STRIDE - INTERRUPTS_END;
 
-// Where domain 0's capabilities for the idle SCs end, and those for the interrupts.
-const IDLE_END: u32 = 132;
-
-const INTERRUPTS_END: u32 = 156;
-
-// Places are looked at in groups, so that null ones are passed over quickly: the places of a group, its words, and the groups of a space.
+// Places are looked at in groups, so that null ones are passed over quickly: the places of a group. Each space has a multiple of them.
 const GROUP: u32 = 16;
 
-const GROUP_WORDS: usize = 64;
+// A domain is cut into as many parts as a word has values, so that a product that wraps takes whole domains off: these parts, and those of one place, rounded up.
+const WHOLE: u64 = 1 << 32;
 
-const GROUPS: u32 = 4;
+const PART: u64 = (WHOLE - 1) / sizes::STRIDE as u64 + 1;
+
+// A space, and where it begins and ends in its domain, in such parts.
+struct Extent {
+    space: u32,
+    from: u64,
+    end: u64,
+}
 
 // What the place holds that a loop over the places has counted to.
 pub fn cap_at(table: &[u32], place: u32) -> Cap
@@ -45,19 +46,34 @@ pub fn cap_at(table: &[u32], place: u32) -> Cap
     places::load(table, Place::counted(place))
 }
 
-// The space of a place: all spaces have as many selectors.
+// The space of the place that a loop over the places has counted to.
 pub fn space_of(place: u32) -> u32
+    requires { ⌜ place < places ⌝ }
     ensures { λ r. ⌜ r ≡ spaceOf place ⌝ }
 {
-    place / sizes::SELECTORS % SPACES
+    Place::counted(place).space()
 }
 
-// Whether a place is of a space: the block of a place's number has its bit in the space's turns.
-fn is_of_space(place: Place, space: u32) -> bool
-    requires { ⌜ (place .0 < places) × (space < spaces) ⌝ }
-    ensures { λ r. ⌜ r ≡ eqb (spaceOf (place .0)) space ⌝ }
+// Where a space begins and ends.
+fn extent_of(space: u32) -> Extent
+    requires { ⌜ space < spaces ⌝ }
+    ensures { λ r. ⌜ r ≡ extentOf space ⌝ }
 {
-    permissions::has(place.number() / sizes::SELECTORS, TURNS << space)
+    let start = sizes::space_start(space);
+    Extent {
+        space,
+        from: PART * (start as u64),
+        end: PART * ((start + sizes::selectors(space)) as u64),
+    }
+}
+
+// Whether a place is of a space: the parts of its domain that come before it are among the space's.
+fn is_of_space(place: Place, extent: Extent) -> bool
+    requires { ⌜ (place .0 < places) × (extent .space < spaces) × (extent ≡ extentOf (extent .space)) ⌝ }
+    ensures { λ r. ⌜ r ≡ eqb (spaceOf (place .0)) (extent .space) ⌝ }
+{
+    let before = PART * (place.number() as u64) % WHOLE;
+    (extent.from <= before) & (before < extent.end)
 }
 
 // Whether two places show the same.
@@ -89,12 +105,12 @@ pub fn null_keeps(cap: Cap) -> bool
 }
 
 // Whether a place may be the parent of a capability in a space. A place that has the capability's permissions is live.
-fn parent_fits(table: &[u32], space: u32, cap: Cap, parent: Place) -> bool
-    requires { ⌜ (length (now table) ≡ placeTableWords) × (0 < cap .permissions) × (space < spaces) × (parent .0 < places) ⌝ }
-    ensures { λ r. ⌜ r ≡ parentFits (placesIn (now (table .entry))) space cap (parent .0) ⌝ }
+fn parent_fits(table: &[u32], extent: Extent, cap: Cap, parent: Place) -> bool
+    requires { ⌜ (length (now table) ≡ placeTableWords) × (0 < cap .permissions) × (extent .space < spaces) × (extent ≡ extentOf (extent .space)) × (parent .0 < places) ⌝ }
+    ensures { λ r. ⌜ r ≡ parentFits (placesIn (now (table .entry))) (extent .space) cap (parent .0) ⌝ }
 {
     let above = places::load(table, parent);
-    is_of_space(parent, space)
+    is_of_space(parent, extent)
         & (above.resource == cap.resource)
         & permissions::is_within(cap.permissions, above.permissions)
         & (above.depth as u64 + 1 == cap.depth as u64)
@@ -111,7 +127,24 @@ fn lineage_keeps(table: &[u32], place: u32, space: u32, cap: Cap) -> bool
     let FoundPlace::At(parent) = Place::linked(cap.parent) else {
         return false;
     };
-    parent_fits(table, space, cap, parent)
+    parent_fits(table, extent_of(space), cap, parent)
+}
+
+// The greatest permissions that a capability for a number in a space may have: none where the number is no resource's. A free record has none either.
+fn greatest_allowed(objects: &[u32], space: u32, resource: u32) -> u32
+    requires { ⌜ (length (now objects) ≡ objectTableWords) × (space < spaces) ⌝ }
+    ensures { λ r. ⌜ r ≡ greatestAllowed (recordsIn (now (objects .entry))) space resource ⌝ }
+{
+    if space == sizes::OBJECT {
+        if sizes::RECORDS <= resource {
+            return 0;
+        }
+        return objects::greatest_of(record_rules::kind_of(objects, resource));
+    }
+    if sizes::PAGES <= resource {
+        return 0;
+    }
+    objects::greatest_permissions(space, objects::FREE)
 }
 
 // Rule 11: a live place lies in a domain with a PD, names a resource, has no permission above the greatest, and has a fitting parent or none.
@@ -123,15 +156,10 @@ pub fn live_keeps(
     home: bool,
     cap: Cap,
 ) -> bool
-    requires { ⌜ Around (record { places = now table; objects = now objects }) place space home × (cap ≡ capAt (now table) place) × (0 < cap .permissions) ⌝ }
-    ensures { λ r. ⌜ r ≡ live-place (shown (record { places = now (table .entry); objects = now (objects .entry) })) place ⌝ }
+    requires { ⌜ Around (tables (now table) (now objects)) place space home × (cap ≡ capAt (now table) place) × (0 < cap .permissions) ⌝ }
+    ensures { λ r. ⌜ r ≡ live-place (view (now (table .entry)) (now (objects .entry))) place ⌝ }
 {
-    if !home | (sizes::SELECTORS <= cap.resource) {
-        return false;
-    }
-    if objects::greatest_permissions(space, record_rules::kind_of(objects, cap.resource))
-        < cap.permissions
-    {
+    if !home | (greatest_allowed(objects, space, cap.resource) < cap.permissions) {
         return false;
     }
     lineage_keeps(table, place, space, cap)
@@ -149,9 +177,9 @@ fn names_object(objects: &[u32], cap: Cap) -> bool
 }
 
 // Whether a place of a domain with a PD passes the shorter test.
-fn quick_keeps(table: &[u32], objects: &[u32], place: u32, space: u32) -> bool
-    requires { ⌜ Around (record { places = now table; objects = now objects }) place space true × (stride ≤ place) ⌝ }
-    ensures { λ r. ⌜ r ≡ quickKeeps (shown (record { places = now (table .entry); objects = now (objects .entry) })) place ⌝ }
+fn quick_keeps(table: &[u32], objects: &[u32], place: u32, extent: Extent) -> bool
+    requires { ⌜ Around (tables (now table) (now objects)) place (extent .space) true × (extent ≡ extentOf (extent .space)) × (stride ≤ place) ⌝ }
+    ensures { λ r. ⌜ r ≡ quickKeeps (view (now (table .entry)) (now (objects .entry))) place ⌝ }
 {
     let cap = cap_at(table, place);
     if cap.permissions == 0 {
@@ -159,44 +187,45 @@ fn quick_keeps(table: &[u32], objects: &[u32], place: u32, space: u32) -> bool
     }
     let FoundPlace::At(parent) = Place::linked(cap.parent) else {
         return (cap.parent == 0)
-            & (space == sizes::OBJECT)
+            & (extent.space == sizes::OBJECT)
             & (cap.depth == 0)
             & names_object(objects, cap);
     };
-    (cap.depth <= sizes::GREATEST_DEPTH) & parent_fits(table, space, cap, parent)
+    (cap.depth <= sizes::GREATEST_DEPTH) & parent_fits(table, extent, cap, parent)
 }
 
-// Whether the words of a group of places are all 0.
-fn is_blank(table: &[u32], first: u32) -> bool
-    requires { ⌜ (length (now table) ≡ placeTableWords) × (first + group ≤ places) ⌝ }
-    ensures { λ r. ⌜ r ≡ blank (now (table .entry)) first ⌝ }
+// Whether the words of so many places from one on are all 0.
+fn is_blank(table: &[u32], first: u32, count: u32) -> bool
+    requires { ⌜ (length (now table) ≡ placeTableWords) × (first + count ≤ places) ⌝ }
+    ensures { λ r. ⌜ r ≡ blank (now (table .entry)) first count ⌝ }
 {
     let start = sizes::PLACE_WORDS * (first as usize);
+    let words = sizes::PLACE_WORDS * (count as usize);
     let mut is_0 = true;
     let mut i: usize = 0;
-    while i < GROUP_WORDS {
+    while i < words {
         is_0 = is_0 & (table[start + i] == 0);
         i += 1;
     }
     is_0
 }
 
-// Whether the places up to the end of a group in a space pass the shorter test, where those before it do.
-fn group_keeps(table: &[u32], objects: &[u32], pds: u32, number: u32, first: u32) -> bool
-    requires { ⌜ (length (now table) ≡ placeTableWords) × Kept (now objects) pds × (spaces ≤ number) × (number < domains * spaces) × (selectors object * number ≤ first) × (first + group ≤ selectors object * (number + 1)) × (allBelow first (quickKeeps (shown (record { places = now table; objects = now objects }))) ≡ true) ⌝ }
-    ensures { λ r. ⌜ r ≡ allBelow (first + group) (quickKeeps (shown (record { places = now (table .entry); objects = now (objects .entry) }))) ⌝ }
+// Whether the places up to the end of a group outside domain 0 pass the shorter test, where those before it do. A group lies in one space of one domain.
+fn group_keeps(table: &[u32], objects: &[u32], pds: u32, first: u32) -> bool
+    requires { ⌜ Passed (tables (now table) (now objects)) pds first × (first < places) ⌝ }
+    ensures { λ r. ⌜ r ≡ allBelow (first + group) (quickKeeps (view (now (table .entry)) (now (objects .entry)))) ⌝ }
 {
-    if is_blank(table, first) {
+    if is_blank(table, first, GROUP) {
         return true;
     }
-    if SPACES * (pds + 1) <= number {
+    if sizes::STRIDE * (pds + 1) <= first {
         return false;
     }
-    let space = number % SPACES;
+    let extent = extent_of(space_of(first));
     let end = first + GROUP;
     let mut at: u32 = first;
     while at < end {
-        if !quick_keeps(table, objects, at, space) {
+        if !quick_keeps(table, objects, at, extent) {
             return false;
         }
         at += 1;
@@ -204,51 +233,48 @@ fn group_keeps(table: &[u32], objects: &[u32], pds: u32, number: u32, first: u32
     true
 }
 
-// Whether the places up to the end of a space outside domain 0 pass the shorter test, where those before it do, the records keep their rules and there are so many PDs.
-fn space_keeps(table: &[u32], objects: &[u32], pds: u32, number: u32) -> bool
-    requires { ⌜ (length (now table) ≡ placeTableWords) × Kept (now objects) pds × (spaces ≤ number) × (number < domains * spaces) × (allBelow (selectors object * number) (quickKeeps (shown (record { places = now table; objects = now objects }))) ≡ true) ⌝ }
-    ensures { λ r. ⌜ r ≡ allBelow (selectors object * (number + 1)) (quickKeeps (shown (record { places = now (table .entry); objects = now (objects .entry) }))) ⌝ }
+// The bits in which places ever differed from what was expected of them, with those of one more place.
+fn gather(differing: Cap, held: Cap, expected: Cap) -> Cap
+    ensures { λ r. ⌜ sameCap r nothing ≡ (sameCap differing nothing && sameCap held expected) ⌝ }
 {
-    let mut done: u32 = 0;
-    while done < GROUPS {
-        if !group_keeps(
-            table,
-            objects,
-            pds,
-            number,
-            sizes::SELECTORS * number + GROUP * done,
-        ) {
-            return false;
-        }
-        done += 1;
+    Cap {
+        resource: differing.resource | (held.resource ^ expected.resource),
+        permissions: differing.permissions | (held.permissions ^ expected.permissions),
+        parent: differing.parent | (held.parent ^ expected.parent),
+        depth: differing.depth | (held.depth ^ expected.depth),
     }
-    true
 }
 
 // Whether the places up to the end of a stretch are as at boot, where those before it are: resources rise by one from its start, with the same permissions.
 fn stretch_keeps(table: &[u32], start: u32, from: u32, end: u32, permissions: u32) -> bool
-    requires { ⌜ (length (now table) ≡ placeTableWords) × (start ≤ from) × (from ≤ end) × (end ≤ stride) × ((p : ℕ) → from ≤ p → p < end → bootCap p ≡ parentless (p - start) permissions) × (allBelow from (fixed-place (placesIn (now table))) ≡ true) ⌝ }
+    requires { ⌜ (length (now table) ≡ placeTableWords) × Stretch start from end permissions × (allBelow from (fixed-place (placesIn (now table))) ≡ true) ⌝ }
     ensures { λ r. ⌜ r ≡ allBelow end (fixed-place (placesIn (now (table .entry)))) ⌝ }
 {
-    let mut keeps = true;
+    let mut differing = places::without_parent(0, 0);
     let mut at: u32 = from;
     while at < end {
-        keeps = keeps
-            & is_same(
-                cap_at(table, at),
-                places::without_parent(at - start, permissions),
-            );
+        differing = gather(
+            differing,
+            cap_at(table, at),
+            places::without_parent(at - start, permissions),
+        );
         at += 1;
     }
-    keeps
+    is_same(differing, places::without_parent(0, 0))
 }
 
-// Whether each place of domain 0 is as at boot.
+// Whether each place of domain 0 is as at boot: its pages, its ports, its idle SCs and its interrupts in turn, and then null places.
 pub fn hypervisor_keeps(table: &[u32]) -> bool
     requires { ⌜ length (now table) ≡ placeTableWords ⌝ }
     ensures { λ r. ⌜ r ≡ allBelow stride (fixed-place (placesIn (now (table .entry)))) ⌝ }
 {
-    if !stretch_keeps(table, 0, 0, sizes::IO_START, 7) {
+    if !stretch_keeps(
+        table,
+        0,
+        0,
+        sizes::IO_START,
+        objects::greatest_permissions(sizes::MEMORY, objects::FREE),
+    ) {
         return false;
     }
     if !stretch_keeps(
@@ -256,44 +282,42 @@ pub fn hypervisor_keeps(table: &[u32]) -> bool
         sizes::IO_START,
         sizes::IO_START,
         sizes::OBJECT_START,
-        1,
+        objects::greatest_permissions(sizes::IO, objects::FREE),
     ) {
         return false;
     }
-    if !stretch_keeps(table, sizes::OBJECT_START, sizes::OBJECT_START, IDLE_END, 1) {
+    if !stretch_keeps(
+        table,
+        sizes::OBJECT_START,
+        sizes::OBJECT_START,
+        IDLE_END,
+        objects::greatest_of(objects::SC),
+    ) {
         return false;
     }
-    if !stretch_keeps(table, sizes::OBJECT_START, IDLE_END, INTERRUPTS_END, 3) {
+    if !stretch_keeps(
+        table,
+        sizes::OBJECT_START,
+        IDLE_END,
+        INTERRUPTS_END,
+        objects::greatest_of(objects::SM),
+    ) {
         return false;
     }
-    rest_keeps(table)
-}
-
-// Whether the places of domain 0 past its objects are null, where those before them are as at boot.
-fn rest_keeps(table: &[u32]) -> bool
-    requires { ⌜ (length (now table) ≡ placeTableWords) × (allBelow (start object + rootPd) (fixed-place (placesIn (now table))) ≡ true) ⌝ }
-    ensures { λ r. ⌜ r ≡ allBelow stride (fixed-place (placesIn (now (table .entry)))) ⌝ }
-{
-    let mut keeps = true;
-    let mut at: u32 = INTERRUPTS_END;
-    while at < sizes::STRIDE {
-        keeps = keeps & is_same(cap_at(table, at), places::without_parent(0, 0));
-        at += 1;
-    }
-    keeps
+    is_blank(table, INTERRUPTS_END, LEFT_NULL)
 }
 
 // Whether each place keeps the rules, where the records keep theirs and domain 0 is as at boot.
 pub fn places_keep(table: &[u32], objects: &[u32], pds: u32) -> bool
     requires { ⌜ (length (now table) ≡ placeTableWords) × Kept (now objects) pds × (allBelow stride (fixed-place (placesIn (now table))) ≡ true) ⌝ }
-    ensures { λ r. ⌜ r ≡ allBelow places (placeKeeps (shown (record { places = now (table .entry); objects = now (objects .entry) }))) ⌝ }
+    ensures { λ r. ⌜ r ≡ allBelow places (placeKeeps (view (now (table .entry)) (now (objects .entry)))) ⌝ }
 {
-    let mut number: u32 = SPACES;
-    while number < ALL_SPACES {
-        if !space_keeps(table, objects, pds, number) {
+    let mut first: u32 = sizes::STRIDE;
+    while first < sizes::PLACES {
+        if !group_keeps(table, objects, pds, first) {
             return false;
         }
-        number += 1;
+        first += GROUP;
     }
     true
 }

@@ -129,7 +129,7 @@ pub fn ec_keeps(objects: &[u32], number: u32, home: bool) -> bool
     }
     home
         & (word_of(objects, number, 2) < objects::CPUS)
-        & (word_of(objects, number, 3) < sizes::SELECTORS)
+        & (word_of(objects, number, 3) < sizes::OBJECTS)
 }
 
 // Whether a number is an EC's.

@@ -3,54 +3,60 @@ use Prim.Native.Nat.{_+_, _-_, _≤_}
 use mathlib.Core.Path.{_≡_, sym, _∙_}
 use mathlib.Core.Bool.{true}
 use native.Mathlib.Omega.{arith}
+use Rattle.words.proofs.PlaceLaws.{space-small}
 use Rattle.interface.specs.Basics.{allBelow}
-use Rattle.interface.specs.Places.{Tables, shown}
-use Rattle.place_rules.specs.PlaceKeeping.{quickKeeps, group}
+use Rattle.interface.specs.Places.{view}
 use Rattle.record_rules.proofs.LoopLaws.{all-below-more, all-below-done, all-below-broken}
 use Rattle.record_rules.proofs.PdLaws.{few-pds}
-use Rattle.place_rules.proofs.PlaceTests.{around-home, homeless-there}
-use Rattle.place_rules.proofs.QuickLaws.{blank-keeps, homeless-broken}
+use Rattle.place_rules.specs.PlaceKeeping.{quickKeeps, group}
+use Rattle.place_rules.proofs.PlaceTests.{extent-space, extent-own, around-home}
+use Rattle.place_rules.proofs.QuickLaws.{blank-keeps, without-pd-broken}
 use borrow.Author.Needs.{needs}
 use Rattle.place_rules.proofs.group_keeps.Statement.{statement}
 use Rattle.place_rules.proofs.group_keeps.Tie as tie
 
 abbrev Inv-loop : tie.InvT-loop
-Inv-loop table objects pds number first space end at₀ at = (first ≤ at) × (at ≤ first + group) × (allBelow at (quickKeeps (shown (record { places = table; objects = objects }))) ≡ true)
+Inv-loop table objects pds first extent end at₀ at = (first ≤ at) × (at ≤ first + group) × (allBelow at (quickKeeps (view table objects)) ≡ true)
 
 abbrev μ-loop : tie.MeasureT-loop
-μ-loop table objects pds number first space end at₀ at = end - at
+μ-loop table objects pds first extent end at₀ at = end - at
 
 is-blank-requires : tie.Need-is-blank-requires Inv-loop μ-loop
-is-blank-requires c κs = search needs
+is-blank-requires c κs = let start = c .before .before in (start .pre .0 .places-long, omega (arith, start .pre .0 .aligned))
 
 returns : tie.Need-returns Inv-loop μ-loop
-returns c = sym (blank-keeps _ _ (omega arith) (sym (c .before .is-blank .ensures) ∙ c .if1 .taken) (c .before .before .before .before .pre .6))
+returns c = sym (blank-keeps _ (c .before .before .before .before .pre .0) (sym (c .before .is-blank .ensures) ∙ c .if1 .taken))
 
 add-if2 : tie.Need-add-if2 Inv-loop μ-loop
-add-if2 c = omega (arith, few-pds (c .before .before .before .before .pre .1 .numbered))
+add-if2 c = omega (arith, few-pds (c .before .before .before .before .pre .0 .kept .numbered))
 
 mul-if2 : tie.Need-mul-if2 Inv-loop μ-loop
-mul-if2 c = omega (arith, few-pds (c .before .before .before .before .pre .1 .numbered))
+mul-if2 c = omega (arith, few-pds (c .before .before .before .before .pre .0 .kept .numbered))
 
 returns-2 : tie.Need-returns-2 Inv-loop μ-loop
-returns-2 c =
-    let start = c .before .before .before .before .before in
-    homeless-broken _ _ _ (omega arith)
-    (λ p from before. homeless-there (start .args .number) p (omega arith) (omega arith) (start .pre .1 .numbered) _ (start .pre .2) (c .if2 .taken))
-    (c .before .before .is-blank .ensures) (c .before .if1 .left)
+returns-2 c = without-pd-broken _ _ (c .before .before .before .before .before .pre .0) (c .if2 .taken) (c .before .before .is-blank .ensures) (c .before .if1 .left)
+
+space-of-requires : tie.Need-space-of-requires Inv-loop μ-loop
+space-of-requires c κs = search needs
+
+extent-of-requires : tie.Need-extent-of-requires Inv-loop μ-loop
+extent-of-requires c κs = rw (c .space-of .ensures) (space-small _)
 
 add-end : tie.Need-add-end Inv-loop μ-loop
 add-end c = search needs
 
 loop-holds : tie.Need-loop-holds Inv-loop μ-loop
-loop-holds c = search needs
+loop-holds c = (omega arith, omega arith, c .before .before .before .before .before .before .before .pre .0 .passed)
 
 quick-keeps-requires : tie.Need-quick-keeps-requires Inv-loop μ-loop
 quick-keeps-requires c κs =
-    let start = c .before .before .before .before .before .before .before in (
-      around-home (start .args .number) (c .before .loop .at) (omega arith) (omega arith) _ (start .pre .0) (start .pre .1) (start .pre .2) (start .pre .3)
-          (omega arith),
-      omega arith,
+    let start = c .before .before .before .before .before .before .before .before .before in
+    let passed = start .pre .0 in
+    let made = c .before .before .extent-of .ensures in (
+      rw (extent-space _ _ made ∙ c .before .before .before .space-of .ensures)
+          (around-home (start .args .first) (c .before .loop .at) (passed .aligned) (omega arith) (omega arith) _ passed (start .pre .1) (omega arith)),
+      extent-own _ _ made,
+      omega (arith, passed .past-hypervisor),
     )
 
 returns-3 : tie.Need-returns-3 Inv-loop μ-loop
@@ -79,6 +85,8 @@ group-keeps-spec =
     add-if2
     mul-if2
     returns-2
+    space-of-requires
+    extent-of-requires
     add-end
     loop-holds
     quick-keeps-requires

@@ -40,6 +40,7 @@ parent-fits-requires c κs =
       start .pre .0 .places-long,
       omega arith,
       omega (arith, start .pre .0 .in-space, space-small (start .args .place)),
+      start .pre .1,
       link-small _ _ _ (c .before .before .before .before .linked .ensures) (c .before .before .parent .given .1),
     )
 
