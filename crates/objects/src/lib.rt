@@ -1,11 +1,12 @@
 // The object table: kinds of objects and their permissions, words of records, storing them, and what is counted in it.
 ghost use mathlib.Core.Path.{_≡_};
+ghost use mathlib.Core.List.{[]};
 ghost use Prim.Native.Nat.{_<_};
 ghost use Rattle.words.specs.Sizes.{records, recordWords};
 ghost use Rattle.descriptor.specs.Numbers.{numbered};
 ghost use Rattle.interface.specs.Basics.{word, put};
 ghost use Rattle.interface.specs.Places.{kindWord, countWord, greatestOf, greatest, objectAt, recordTable};
-ghost use Rattle.objects.specs.Records.{Sized, lowestFree, pdCount, fiveWords};
+ghost use Rattle.objects.specs.Records.{Sized, lowestFree, pdCount, fiveWords, storedWord};
 use descriptor::FoundObject;
 use descriptor::ObjectNumber;
 use words::sizes;
@@ -83,7 +84,26 @@ pub fn kind_named(table: &[u32], resource: u32) -> u32
     load(table, number, KIND)
 }
 
-// Stores the words of a record.
+// Stores a word of a record.
+pub fn set(table: &mut [u32], number: ObjectNumber, index: usize, value: u32)
+    requires { ⌜ Sized (now table) × (number .0 < records) × (index < recordWords) ⌝ }
+    ensures { λ r. ⌜ now (table .exit) ≡ storedWord (now (table .entry)) (number .0) index value ⌝ }
+{
+    let at = number.words_start() + index;
+    table[at] = value;
+}
+
+// Stores 0 in each word of a record.
+fn clear(table: &mut [u32], number: ObjectNumber)
+    requires { ⌜ Sized (now table) × (number .0 < records) ⌝ }
+    ensures { λ r. ⌜ now (table .exit) ≡ recordTable (put (objectAt (now (table .entry))) (number .0) (word [])) ⌝ }
+{
+    for index in 0..sizes::RECORD_WORDS {
+        set(table, number, index, 0);
+    }
+}
+
+// Stores the words of a new object: its kind and the four words after it, and 0 in the others.
 pub fn make(
     table: &mut [u32],
     number: ObjectNumber,
@@ -96,20 +116,20 @@ pub fn make(
     requires { ⌜ Sized (now table) × (number .0 < records) ⌝ }
     ensures { λ r. ⌜ now (table .exit) ≡ recordTable (put (objectAt (now (table .entry))) (number .0) (word (fiveWords kind first second third fourth))) ⌝ }
 {
-    let at = number.words_start();
-    table[at] = kind;
-    table[at + 1] = first;
-    table[at + 2] = second;
-    table[at + 3] = third;
-    table[at + 4] = fourth;
+    clear(table, number);
+    set(table, number, KIND, kind);
+    set(table, number, 1, first);
+    set(table, number, 2, second);
+    set(table, number, 3, third);
+    set(table, number, 4, fourth);
 }
 
 // Stores a semaphore's count.
 pub fn set_count(table: &mut [u32], number: ObjectNumber, value: u32)
     requires { ⌜ Sized (now table) × (number .0 < records) ⌝ }
-    ensures { λ r. ⌜ now (table .exit) ≡ recordTable (put (objectAt (now (table .entry))) (number .0) (put (objectAt (now (table .entry)) (number .0)) countWord value)) ⌝ }
+    ensures { λ r. ⌜ now (table .exit) ≡ storedWord (now (table .entry)) (number .0) countWord value ⌝ }
 {
-    table[number.words_start() + COUNT] = value;
+    set(table, number, COUNT, value);
 }
 
 // The lowest free record, if one is free.
