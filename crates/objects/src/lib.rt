@@ -5,7 +5,7 @@ ghost use Prim.Native.Nat.{_<_};
 ghost use Rattle.words.specs.Sizes.{records, recordWords};
 ghost use Rattle.descriptor.specs.Numbers.{numbered};
 ghost use Rattle.interface.specs.Basics.{word, put};
-ghost use Rattle.interface.specs.Places.{kindWord, countWord, greatestOf, greatest, objectAt, recordTable};
+ghost use Rattle.interface.specs.Places.{kindWord, countWord, namedWords, greatestOf, greatest, objectAt, recordTable};
 ghost use Rattle.objects.specs.Records.{Sized, lowestFree, pdCount, fiveWords, storedWord};
 use descriptor::FoundObject;
 use descriptor::ObjectNumber;
@@ -27,14 +27,23 @@ pub const SM: u32 = 5;
 // The number of CPUs.
 pub const CPUS: u32 = 4;
 
-// Where a record has its words: the kind; a PD's or an EC's domain; an EC's CPU; the EC of an SC or a PT; an SM's count.
+// Where a record has its words: the kind; a PD's or an EC's domain; an EC's CPU and event base; the EC of an SC or a PT; an SC's priority and quantum; a PT's
+// identifier, the last of its words; an SM's count.
 pub const KIND: usize = 0;
 
 pub const DOMAIN: usize = 1;
 
 pub const CPU: usize = 2;
 
+pub const EVENT_BASE: usize = 3;
+
 pub const BOUND_EC: usize = 1;
+
+pub const PRIORITY: usize = 2;
+
+pub const QUANTUM: usize = 3;
+
+pub const IDENTIFIER: usize = 4;
 
 pub const COUNT: usize = 1;
 
@@ -63,6 +72,20 @@ pub fn greatest_permissions(space: u32, kind: u32) -> u32
         return 1;
     }
     greatest_of(kind)
+}
+
+// How many words after the kind a record of a kind names: the last of them has this index.
+pub fn named_words(kind: u32) -> usize
+    ensures { λ r. ⌜ (r ≡ namedWords kind) × (r < recordWords) ⌝ }
+{
+    match kind {
+        PD => DOMAIN,
+        EC => EVENT_BASE,
+        SC => QUANTUM,
+        PT => IDENTIFIER,
+        SM => COUNT,
+        _ => KIND,
+    }
 }
 
 // A word of a record.
