@@ -1,17 +1,38 @@
 -- The rules of records as the code tests them: what each definition gives on each way out of the function that tests it.
-use Prim.Native.Nat.{ℕ, zero, suc, _+_, _-_, _≤_, _<_}
-use mathlib.Core.Path.{_≡_, refl, sym, _∙_}
+use Prim.Native.Nat.{ℕ, _+_, _-_, _≤_, _<_}
+use mathlib.Core.Path.{_≡_, refl, sym, ap, _∙_, fun-ext}
 use mathlib.Core.Bool.{Bool, true, false, not, _&&_, _||_, and-false}
+use mathlib.Core.List.{List, [], _∷_, _++_}
+use native.Mathlib.Numerals.{add-one}
 use native.Mathlib.Omega.{arith}
-use lib.Dec.{eqb, leb, ltb}
+use lib.Dec.{eqb, leb, ltb, leb·suc-suc}
+use lib.ListN.{replicate, List·getD-eq-default}
 use borrow.Author.Tests.{ltb-true, ltb-false, leb-true, lt-ltb, le-ltb, le-leb, lt-leb, eqb-true, eqb-false, eq-eqb, ne-eqb, not-false}
 use Rattle.words.specs.Sizes.{object, domains, selectors, records, recordWords}
-use Rattle.interface.specs.Basics.{if_then_else_, allBelow}
-use Rattle.interface.specs.Places.{State, free, PD, EC, SC, PT, SM, kindOf, namedWords, domainWord, cpuWord, eventBaseWord, ecWord, priorityWord, quantumWord}
+use Rattle.interface.specs.Basics.{if_then_else_, word, allBelow}
+use Rattle.interface.specs.Places.{State, free, PD, EC, SC, PT, SM, kindOf, namedWords, kindWord, countWord, domainWord, cpuWord, eventBaseWord, ecWord, priorityWord, quantumWord}
 use Rattle.interface.specs.Boot.{root, cpus, rootPd, rootEc, rootSc, noEc, rootPriority, rootQuantum, bootRecord}
 use Rattle.interface.specs.Damage.{fixed-record, interrupt-rule, unnamed-rule, used-first, pdsBelow, pd-rule, hasPd, isEc, ec-rule, between1, greatestPriority, greatestQuantum, sc-rule, pt-rule}
 use Rattle.interface.proofs.BoolLaws.{cases, not-both, and-left, and-right, or-none-left, or-none-right, not-asked}
-use Rattle.record_rules.specs.RecordKeeping.{hasWords, recordKeeps}
+use Rattle.interface.proofs.BelowLaws.{all-below-at, all-below}
+use Rattle.objects.proofs.RecordTableLaws.{short-words}
+use Rattle.record_rules.specs.RecordKeeping.{clearFrom, hasWords, recordKeeps}
+use Rattle.record_rules.proofs.LoopLaws.{so-far-more, so-far-done}
+use Rattle.record_rules.proofs.TailLaws.{from-zero, after-four, from-same}
+
+-- a test or another, as a choice
+or-if : (a b : Bool) → (a || b) ≡ (if a then true else b)
+or-if true b = refl
+or-if false b = refl
+
+-- the words of a row from an index on, word by word
+module _ (row : ℕ → ℕ) (index : ℕ) where
+  pub clear-none : true ≡ allBelow index (λ k. ltb k index || eqb (row k) 0)
+  clear-none = sym (all-below index (λ k. ltb k index || eqb (row k) 0) (λ k l. rw (lt-ltb k index l)))
+
+  pub clear-more : (at value : ℕ) (so-far : Bool) → index ≤ at → so-far ≡ allBelow at (λ k. ltb k index || eqb (row k) 0) → value ≡ row at →
+      (so-far && eqb value 0) ≡ allBelow (at + 1) (λ k. ltb k index || eqb (row k) 0)
+  clear-more at value so-far l h e = so-far-more (λ k. ltb k index || eqb (row k) 0) at (eqb value 0) so-far h (rw (le-ltb at index l, e))
 
 module _ (s : State) (r : ℕ) where
   -- the tests of an SC
@@ -24,22 +45,56 @@ module _ (s : State) (r : ℕ) where
   abbrev in-quantum : Bool
   in-quantum = between1 greatestQuantum (s .objects r quantumWord)
 
+  -- whether the words are those of a list
+  abbrev hasList : List ℕ → Bool
+  hasList words = allBelow recordWords (λ k. eqb (s .objects r k) (word words k))
+
+  -- zeros after a list change nothing
+  list-short : (words : List ℕ) (zeros : ℕ) → hasList (words ++ replicate zeros 0) ≡ hasList words
+  list-short words zeros = ap (λ (row : ℕ → ℕ). allBelow recordWords (λ k. eqb (s .objects r k) (row k))) (short-words words zeros)
+
+  -- the words from an index on
+  pub clear-done : (index at : ℕ) (so-far : Bool) → at ≤ recordWords → recordWords ≤ at → so-far ≡ allBelow at (λ k. ltb k index || eqb (s .objects r k) 0) →
+      so-far ≡ clearFrom s r index
+  unfolding clearFrom
+  clear-done index at so-far l g h = so-far-done (λ k. ltb k index || eqb (s .objects r k) 0) recordWords at so-far l g h
+
+  -- four words and those after them
+  pub has-words-so : (kind first second third a b d e : ℕ) (clear : Bool) → a ≡ kindOf s r → b ≡ s .objects r 1 → d ≡ s .objects r 2 → e ≡ s .objects r 3 →
+      clear ≡ clearFrom s r 4 → (eqb a kind && eqb b first && eqb d second && eqb e third && clear) ≡ hasWords s r kind first second third
+  unfolding hasWords clearFrom
+  has-words-so kind first second third a b d e clear ka kb kd ke h =
+      let words = kind ∷ first ∷ second ∷ third ∷ [] in
+      let rest = from-same recordWords 4 (λ k. eqb (s .objects r k) 0) (λ k. eqb (s .objects r k) (word words k))
+      (λ k past. ap (eqb (s .objects r k)) (sym (List·getD-eq-default words 0 past))) in
+      rw (ka, kb, kd, ke, h ∙ rest) (after-four recordWords (λ k. eqb (s .objects r k) (word words k)) (omega arith))
+
+  -- a record of another kind has other words
+  other-words : (kind other first second third : ℕ) → kindOf s r ≡ kind → (kind ≡ other → ⊥) → hasWords s r other first second third ≡ false
+  unfolding hasWords
+  other-words kind other first second third known apart =
+      let words = other ∷ first ∷ second ∷ third ∷ [] in
+      cases (hasList words)
+      (λ (t : hasList words ≡ true).
+      absurd (apart (sym known ∙ eqb-true (kindOf s r) other (all-below-at recordWords (λ k. eqb (s .objects r k) (word words k)) t kindWord (omega arith)))))
+      (λ (f : hasList words ≡ false). f)
+
   -- the fixed records
   module _ (same : Bool) where
     pub fixed-idle : r < cpus → same ≡ hasWords s r SC noEc 0 0 → same ≡ fixed-record s r
-    unfolding fixed-record bootRecord hasWords allBelow
-    fixed-idle l h = h ∙ rw (lt-ltb r cpus l)
+    unfolding fixed-record bootRecord hasWords
+    fixed-idle l h = rw (lt-ltb r cpus l) (h ∙ list-short (SC ∷ noEc ∷ []) 2)
 
     pub fixed-pd : r ≡ rootPd → same ≡ hasWords s r PD root 0 0 → same ≡ fixed-record s r
-    unfolding fixed-record bootRecord hasWords allBelow
-    fixed-pd e h = h ∙ rw e
+    unfolding fixed-record bootRecord hasWords
+    fixed-pd e h = h ∙ list-short (PD ∷ root ∷ []) 2 ∙ rw e
 
     pub fixed-ec : r ≡ rootEc → same ≡ hasWords s r EC root 0 0 → same ≡ fixed-record s r
-    unfolding fixed-record bootRecord hasWords allBelow
-    fixed-ec e h = h ∙ rw e
+    unfolding fixed-record bootRecord hasWords
+    fixed-ec e h = h ∙ list-short (EC ∷ root ∷ []) 2 ∙ rw e
 
     pub fixed-sc : r ≡ rootSc → same ≡ hasWords s r SC rootEc rootPriority rootQuantum → same ≡ fixed-record s r
-    unfolding fixed-record bootRecord hasWords allBelow
+    unfolding fixed-record bootRecord hasWords
     fixed-sc e h = h ∙ rw e
 
   pub fixed-other : cpus ≤ r → (r ≡ rootPd → ⊥) → (r ≡ rootEc → ⊥) → (r ≡ rootSc → ⊥) → true ≡ fixed-record s r
@@ -63,31 +118,20 @@ module _ (s : State) (r : ℕ) where
       (λ (g : ltb r rootPd ≡ false). let b : rootPd ≤ r = ltb-false r rootPd g in rw (f, le-leb cpus r l, g, le-leb rootPd r b)))
 
   -- the words that a record does not name
-  named : (kind : ℕ) → kind ≤ SM →
-      (eqb kind free || ((eqb kind EC || eqb kind SC || eqb kind PT || (eqb (s .objects r 2) 0 && eqb (s .objects r 3) 0)) && (eqb kind PT || eqb (s .objects r 4) 0))) ≡
-      (if eqb kind free then true else allBelow recordWords (λ k. leb k (namedWords kind) || eqb (s .objects r k) 0))
-  unfolding allBelow
-  named zero l = refl
-  named (suc zero) l = refl
-  named (suc (suc zero)) l = refl
-  named (suc (suc (suc zero))) l = refl
-  named (suc (suc (suc (suc zero)))) l = refl
-  named (suc (suc (suc (suc (suc zero))))) l = refl
-  named (suc (suc (suc (suc (suc (suc n)))))) l = absurd (omega arith)
-
-  pub unnamed-so : (kind second third fourth : ℕ) → kind ≡ kindOf s r → second ≡ s .objects r 2 → third ≡ s .objects r 3 → fourth ≡ s .objects r 4 →
-      (leb kind SM && (eqb kind free || ((eqb kind EC || eqb kind SC || eqb kind PT || (eqb second 0 && eqb third 0)) && (eqb kind PT || eqb fourth 0)))) ≡ unnamed-rule s r
-  unfolding unnamed-rule
-  unnamed-so kind second third fourth e a b d =
-      rw (e, a, b, d)
-      (cases (leb (kindOf s r) SM) (λ (t : leb (kindOf s r) SM ≡ true). rw t (named (kindOf s r) (leb-true (kindOf s r) SM t)))
-      (λ (f : leb (kindOf s r) SM ≡ false). rw f))
+  pub unnamed-so : (kind named : ℕ) (clear : Bool) → kind ≡ kindOf s r → named ≡ namedWords kind → clear ≡ clearFrom s r (named + 1) →
+      (leb kind SM && (eqb kind free || clear)) ≡ unnamed-rule s r
+  unfolding unnamed-rule clearFrom
+  unnamed-so kind named clear e n h =
+      let upto : _≡_ {A = ℕ → Bool} (λ k. ltb k (named + 1) || eqb (s .objects r k) 0) (λ k. leb k named || eqb (s .objects r k) 0) =
+      fun-ext (λ k. rw (add-one named, leb·suc-suc k named)) in
+      rw (h ∙ ap (allBelow recordWords) upto, n, e) (ap (λ (b : Bool). leb (kindOf s r) SM && b) (or-if (eqb (kindOf s r) free) _))
 
   -- used records and free ones
   module _ (kind : ℕ) (known : kind ≡ kindOf s r) where
-    pub free-so : (zeros : Bool) → kind ≡ free → zeros ≡ hasWords s r 0 0 0 0 → zeros ≡ used-first s r
-    unfolding used-first hasWords allBelow
-    free-so zeros e h = h ∙ rw (eq-eqb (kindOf s r) free (sym known ∙ e))
+    pub free-so : (zeros : Bool) → kind ≡ free → zeros ≡ clearFrom s r kindWord → zeros ≡ used-first s r
+    unfolding used-first clearFrom
+    free-so zeros e h =
+        rw (eq-eqb (kindOf s r) free (sym known ∙ e)) (h ∙ from-zero recordWords (λ k. eqb (s .objects r k) 0))
 
     pub used-at-0 : (kind ≡ free → ⊥) → r ≡ 0 → true ≡ used-first s r
     unfolding used-first
@@ -168,9 +212,8 @@ module _ (s : State) (r kind : ℕ) (known : kind ≡ kindOf s r) (none : kind �
   is-free = sym known ∙ none
 
   -- it has the words of no used record
-  no-words : (other first second third : ℕ) → (other ≡ free → ⊥) → hasWords s r other first second third ≡ false
-  unfolding hasWords allBelow
-  no-words other first second third used = rw (is-free, ne-eqb free other (λ e. used (sym e)))
+  no-words : (other first second third : ℕ) → (free ≡ other → ⊥) → hasWords s r other first second third ≡ false
+  no-words other first second third = other-words s r free other first second third is-free
 
   fixed-broken : r ≤ rootSc → (fixed-record s r && interrupt-rule s r) ≡ false
   fixed-broken l =
@@ -203,7 +246,7 @@ module _ (s : State) (r kind : ℕ) (known : kind ≡ kindOf s r) (none : kind �
         le-leb rootPd r (omega arith),
       )
 
-  free-rest : (zeros : Bool) → zeros ≡ hasWords s r 0 0 0 0 → (first : Bool) → (fixed-record s r && interrupt-rule s r) ≡ first → (first && zeros) ≡ recordKeeps s r
+  free-rest : (zeros : Bool) → zeros ≡ clearFrom s r kindWord → (first : Bool) → (fixed-record s r && interrupt-rule s r) ≡ first → (first && zeros) ≡ recordKeeps s r
   unfolding recordKeeps unnamed-rule
   free-rest zeros h first e =
       rw (
@@ -222,16 +265,15 @@ module _ (s : State) (r kind : ℕ) (known : kind ≡ kindOf s r) (none : kind �
       last false true = refl
       last false false = refl
 
-  pub free-keeps : (zeros : Bool) → zeros ≡ hasWords s r 0 0 0 0 → (ltb rootSc r && zeros) ≡ recordKeeps s r
+  pub free-keeps : (zeros : Bool) → zeros ≡ clearFrom s r kindWord → (ltb rootSc r && zeros) ≡ recordKeeps s r
   free-keeps zeros h =
       cases (ltb rootSc r) (λ (t : ltb rootSc r ≡ true). rw t (free-rest zeros h true (fixed-kept (ltb-true rootSc r t))))
       (λ (f : ltb rootSc r ≡ false). rw f (free-rest zeros h false (fixed-broken (ltb-false rootSc r f))))
 
 -- a semaphore's record keeps the rules where it is none of the fixed ones, has its count alone, and comes after a used one
 module _ (s : State) (r : ℕ) (known : kindOf s r ≡ SM) where
-  other-words : (other first second third : ℕ) → (other ≡ SM → ⊥) → hasWords s r other first second third ≡ false
-  unfolding hasWords allBelow
-  other-words other first second third apart = rw (known, ne-eqb SM other (λ e. apart (sym e)))
+  no-semaphore : (other first second third : ℕ) → (SM ≡ other → ⊥) → hasWords s r other first second third ≡ false
+  no-semaphore other first second third = other-words s r SM other first second third known
 
   fixed-not : cpus ≤ r → (ltb r rootPd || ltb rootSc r) ≡ fixed-record s r
   fixed-not l =
@@ -249,25 +291,24 @@ module _ (s : State) (r : ℕ) (known : kindOf s r ≡ SM) where
       let upto = ltb-false rootSc r g in
       rw (f, g)
       (cases (eqb r rootPd)
-      (λ (t : eqb r rootPd ≡ true). fixed-pd s r false (eqb-true r rootPd t) (sym (other-words PD root 0 0 (λ e. omega arith))))
+      (λ (t : eqb r rootPd ≡ true). fixed-pd s r false (eqb-true r rootPd t) (sym (no-semaphore PD root 0 0 (λ e. omega arith))))
       (λ (a : eqb r rootPd ≡ false).
       cases (eqb r rootEc)
-      (λ (t : eqb r rootEc ≡ true). fixed-ec s r false (eqb-true r rootEc t) (sym (other-words EC root 0 0 (λ e. omega arith))))
+      (λ (t : eqb r rootEc ≡ true). fixed-ec s r false (eqb-true r rootEc t) (sym (no-semaphore EC root 0 0 (λ e. omega arith))))
       (λ (b : eqb r rootEc ≡ false).
       let is-sc : r ≡ rootSc = omega (arith, eqb-false r rootPd a, eqb-false r rootEc b) in
-      fixed-sc s r false is-sc (sym (other-words SC rootEc rootPriority rootQuantum (λ e. omega arith))))))))
+      fixed-sc s r false is-sc (sym (no-semaphore SC rootEc rootPriority rootQuantum (λ e. omega arith))))))))
 
   pub semaphore-early : r < cpus → false ≡ recordKeeps s r
   unfolding recordKeeps
-  semaphore-early l = rw (sym (fixed-idle s r false l (sym (other-words SC noEc 0 0 (λ e. omega arith)))))
+  semaphore-early l = rw (sym (fixed-idle s r false l (sym (no-semaphore SC noEc 0 0 (λ e. omega arith)))))
 
-  pub semaphore-late : (second third fourth before : ℕ) → cpus ≤ r → second ≡ s .objects r 2 → third ≡ s .objects r 3 → fourth ≡ s .objects r 4 →
-      before ≡ kindOf s (r - 1) →
-      ((ltb r rootPd || ltb rootSc r) && (eqb second 0 && eqb third 0 && eqb fourth 0) && not (eqb before free)) ≡ recordKeeps s r
+  pub semaphore-late : (clear : Bool) (before : ℕ) → cpus ≤ r → clear ≡ clearFrom s r (countWord + 1) → before ≡ kindOf s (r - 1) →
+      ((ltb r rootPd || ltb rootSc r) && clear && not (eqb before free)) ≡ recordKeeps s r
   unfolding recordKeeps
-  semaphore-late second third fourth before l a b d e =
+  semaphore-late clear before l h e =
       let interrupts : interrupt-rule s r ≡ true = sym (interrupt-so s r SM (sym known)) ∙ last-or (ltb r cpus || leb rootPd r) in
-      let unnamed : unnamed-rule s r ≡ (eqb second 0 && eqb third 0 && eqb fourth 0) = sym (unnamed-so s r SM second third fourth (sym known) a b d) in
+      let unnamed : unnamed-rule s r ≡ clear = sym (unnamed-so s r SM countWord clear (sym known) refl h) in
       let used : used-first s r ≡ not (eqb before free) = sym (used-after s r SM (sym known) before (λ f. omega arith) (λ f. omega arith) e) in
       rw (
         fixed-not l,
@@ -278,7 +319,7 @@ module _ (s : State) (r : ℕ) (known : kindOf s r ≡ SM) where
         sym (sc-not s r SM (sym known) refl),
         sym (pt-not s r SM (sym known) (λ f. omega arith)),
       )
-      (all-true (fixed-record s r) (eqb second 0 && eqb third 0 && eqb fourth 0) (not (eqb before free)))
+      (all-true (fixed-record s r) clear (not (eqb before free)))
     where
       last-or : (x : Bool) → (x || true) ≡ true
       last-or true = refl

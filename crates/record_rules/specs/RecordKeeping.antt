@@ -1,9 +1,9 @@
 -- What the functions over records cite beside the rules of damage: the rules of a record taken together, and records whose PDs are numbered and counted.
 use Prim.Native.Nat.{ℕ}
 use mathlib.Core.Path.{_≡_}
-use mathlib.Core.Bool.{Bool, true, _&&_}
+use mathlib.Core.Bool.{Bool, true, _&&_, _||_}
 use mathlib.Core.List.{List, [], _∷_}
-use lib.Dec.{eqb}
+use lib.Dec.{eqb, ltb}
 use lib.ListN.{length}
 use Rattle.words.specs.Sizes.{records, recordWords}
 use Rattle.interface.specs.Basics.{word, allBelow}
@@ -13,6 +13,10 @@ use Rattle.interface.specs.Damage.{fixed-record, interrupt-rule, unnamed-rule, 
 -- what an object table alone shows
 abbrev pub recordsIn : List ℕ → State
 recordsIn table = record { caps = λ p. nothing; objects = objectAt table }
+
+-- whether a record's words from an index on are 0
+unfoldable pub clearFrom : State → ℕ → ℕ → Bool
+clearFrom s r index = allBelow recordWords (λ k. ltb k index || eqb (s .objects r k) 0)
 
 -- whether a record's words are four given ones and then 0
 unfoldable pub hasWords : State → ℕ → ℕ → ℕ → ℕ → ℕ → Bool

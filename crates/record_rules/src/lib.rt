@@ -8,7 +8,7 @@ ghost use Rattle.words.specs.Sizes.{records, recordWords};
 ghost use Rattle.interface.specs.Basics.{if_then_else_, allBelow};
 ghost use Rattle.interface.specs.Places.{PD, SM, objectTableWords, domainWord, objectAt, kindOf};
 ghost use Rattle.interface.specs.Damage.{fixed-record, interrupt-rule, unnamed-rule, used-first, pdsBelow, pd-rule, hasPd, isEc, ec-rule, sc-rule, pt-rule};
-ghost use Rattle.record_rules.specs.RecordKeeping.{recordsIn, hasWords, recordKeeps, Numbered};
+ghost use Rattle.record_rules.specs.RecordKeeping.{recordsIn, clearFrom, hasWords, recordKeeps, Numbered};
 use descriptor::ObjectNumber;
 use words::sizes;
 
@@ -18,11 +18,11 @@ const GREATEST_PRIORITY: u32 = 255;
 const GREATEST_QUANTUM: u32 = 1048575;
 
 // A word of the record that a loop over the records has counted to.
-pub fn word_of(objects: &[u32], number: u32, index: u32) -> u32
+pub fn word_of(objects: &[u32], number: u32, index: usize) -> u32
     requires { ⌜ (length (now objects) ≡ objectTableWords) × (number < records) × (index < recordWords) ⌝ }
     ensures { λ r. ⌜ r ≡ objectAt (now (objects .entry)) number index ⌝ }
 {
-    objects::load(objects, ObjectNumber::counted(number), index as usize)
+    objects::load(objects, ObjectNumber::counted(number), index)
 }
 
 // The kind of a record.
@@ -30,7 +30,21 @@ pub fn kind_of(objects: &[u32], number: u32) -> u32
     requires { ⌜ (length (now objects) ≡ objectTableWords) × (number < records) ⌝ }
     ensures { λ r. ⌜ r ≡ kindOf (recordsIn (now (objects .entry))) number ⌝ }
 {
-    word_of(objects, number, 0)
+    word_of(objects, number, objects::KIND)
+}
+
+// Whether a record's words from an index on are 0.
+fn is_clear_from(objects: &[u32], number: u32, index: usize) -> bool
+    requires { ⌜ (length (now objects) ≡ objectTableWords) × (number < records) × (index ≤ recordWords) ⌝ }
+    ensures { λ r. ⌜ r ≡ clearFrom (recordsIn (now (objects .entry))) number index ⌝ }
+{
+    let mut clear = true;
+    let mut at = index;
+    while at < sizes::RECORD_WORDS {
+        clear = clear & (word_of(objects, number, at) == 0);
+        at += 1;
+    }
+    clear
 }
 
 // Whether a record's words are four given ones and then 0.
@@ -38,11 +52,11 @@ fn has_words(objects: &[u32], number: u32, kind: u32, first: u32, second: u32, t
     requires { ⌜ (length (now objects) ≡ objectTableWords) × (number < records) ⌝ }
     ensures { λ r. ⌜ r ≡ hasWords (recordsIn (now (objects .entry))) number kind first second third ⌝ }
 {
-    (word_of(objects, number, 0) == kind)
+    (kind_of(objects, number) == kind)
         & (word_of(objects, number, 1) == first)
         & (word_of(objects, number, 2) == second)
         & (word_of(objects, number, 3) == third)
-        & (word_of(objects, number, 4) == 0)
+        & is_clear_from(objects, number, 4)
 }
 
 // Rule 2: the idle SCs and the root's PD, EC and SC are as at boot.
@@ -86,11 +100,8 @@ pub fn unnamed_keeps(objects: &[u32], number: u32) -> bool
     ensures { λ r. ⌜ r ≡ unnamed-rule (recordsIn (now (objects .entry))) number ⌝ }
 {
     let kind = kind_of(objects, number);
-    let names_three = (kind == objects::EC) | (kind == objects::SC) | (kind == objects::PT);
-    let unnamed_are_0 = (names_three
-        | ((word_of(objects, number, 2) == 0) & (word_of(objects, number, 3) == 0)))
-        & ((kind == objects::PT) | (word_of(objects, number, 4) == 0));
-    (kind <= objects::SM) & ((kind == objects::FREE) | unnamed_are_0)
+    (kind <= objects::SM)
+        & ((kind == objects::FREE) | is_clear_from(objects, number, objects::named_words(kind) + 1))
 }
 
 // Rule 5: used records come first, and a free record is all 0.
@@ -99,7 +110,7 @@ pub fn used_first_keeps(objects: &[u32], number: u32) -> bool
     ensures { λ r. ⌜ r ≡ used-first (recordsIn (now (objects .entry))) number ⌝ }
 {
     if kind_of(objects, number) == objects::FREE {
-        return has_words(objects, number, 0, 0, 0, 0);
+        return is_clear_from(objects, number, objects::KIND);
     }
     if number == 0 {
         return true;
@@ -115,7 +126,7 @@ pub fn pd_keeps(objects: &[u32], number: u32, before: u32) -> bool
     if kind_of(objects, number) != objects::PD {
         return true;
     }
-    let domain = word_of(objects, number, 1);
+    let domain = word_of(objects, number, objects::DOMAIN);
     (domain == before + 1) & (domain < sizes::DOMAINS)
 }
 
@@ -128,8 +139,8 @@ pub fn ec_keeps(objects: &[u32], number: u32, home: bool) -> bool
         return true;
     }
     home
-        & (word_of(objects, number, 2) < objects::CPUS)
-        & (word_of(objects, number, 3) < sizes::OBJECTS)
+        & (word_of(objects, number, objects::CPU) < objects::CPUS)
+        & (word_of(objects, number, objects::EVENT_BASE) < sizes::OBJECTS)
 }
 
 // Whether a number is an EC's.
@@ -151,9 +162,9 @@ pub fn sc_keeps(objects: &[u32], number: u32) -> bool
     if (kind_of(objects, number) != objects::SC) | (number < objects::CPUS) {
         return true;
     }
-    let priority = word_of(objects, number, 2);
-    let quantum = word_of(objects, number, 3);
-    is_ec(objects, word_of(objects, number, 1))
+    let priority = word_of(objects, number, objects::PRIORITY);
+    let quantum = word_of(objects, number, objects::QUANTUM);
+    is_ec(objects, word_of(objects, number, objects::BOUND_EC))
         & ((1 <= priority) & (priority <= GREATEST_PRIORITY))
         & ((1 <= quantum) & (quantum <= GREATEST_QUANTUM))
 }
@@ -166,7 +177,7 @@ pub fn pt_keeps(objects: &[u32], number: u32) -> bool
     if kind_of(objects, number) != objects::PT {
         return true;
     }
-    is_ec(objects, word_of(objects, number, 1))
+    is_ec(objects, word_of(objects, number, objects::BOUND_EC))
 }
 
 // The number of PDs before a record.
@@ -220,9 +231,7 @@ fn semaphore_keeps(objects: &[u32], number: u32) -> bool
         return false;
     }
     ((number < boot::ROOT_PD) | (boot::ROOT_SC < number))
-        & ((word_of(objects, number, 2) == 0)
-            & (word_of(objects, number, 3) == 0)
-            & (word_of(objects, number, 4) == 0))
+        & is_clear_from(objects, number, objects::COUNT + 1)
         & (kind_of(objects, number - 1) != objects::FREE)
 }
 
@@ -232,12 +241,12 @@ fn record_keeps(objects: &[u32], number: u32, pds: u32) -> bool
     ensures { λ r. ⌜ r ≡ recordKeeps (recordsIn (now (objects .entry))) number ⌝ }
 {
     if kind_of(objects, number) == objects::FREE {
-        return (boot::ROOT_SC < number) & has_words(objects, number, 0, 0, 0, 0);
+        return (boot::ROOT_SC < number) & is_clear_from(objects, number, objects::KIND);
     }
     if kind_of(objects, number) == objects::SM {
         return semaphore_keeps(objects, number);
     }
-    let domain = word_of(objects, number, 1);
+    let domain = word_of(objects, number, objects::DOMAIN);
     fixed_keeps(objects, number)
         & interrupt_keeps(objects, number)
         & unnamed_keeps(objects, number)
@@ -271,7 +280,8 @@ pub fn has_pd(objects: &[u32], domain: u32) -> bool
     let mut at: u32 = 0;
     while at < sizes::RECORDS {
         found = found
-            | ((kind_of(objects, at) == objects::PD) & (word_of(objects, at, 1) == domain));
+            | ((kind_of(objects, at) == objects::PD)
+                & (word_of(objects, at, objects::DOMAIN) == domain));
         at += 1;
     }
     found

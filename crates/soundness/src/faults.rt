@@ -28,7 +28,10 @@ fn record_keeps_rule(rule: u32, objects: &[u32], number: u32) -> bool
         7 => record_rules::ec_keeps(
             objects,
             number,
-            record_rules::has_pd(objects, record_rules::word_of(objects, number, 1)),
+            record_rules::has_pd(
+                objects,
+                record_rules::word_of(objects, number, objects::DOMAIN),
+            ),
         ),
         8 => record_rules::sc_keeps(objects, number),
         9 => record_rules::pt_keeps(objects, number),

@@ -1,9 +1,11 @@
--- The tests are the definition's, word by word.
+-- The tests are the definition's: four words, and those after them.
 use borrow.Author.Needs.{needs}
-use Rattle.interface.specs.Basics.{allBelow}
-use Rattle.record_rules.specs.RecordKeeping.{hasWords}
+use Rattle.record_rules.proofs.RecordTests.{has-words-so}
 use Rattle.record_rules.proofs.has_words.Statement.{statement}
 use Rattle.record_rules.proofs.has_words.Tie as tie
+
+kind-of-requires : tie.Need-kind-of-requires
+kind-of-requires c κs = search needs
 
 word-of-requires : tie.Need-word-of-requires
 word-of-requires c κs = search needs
@@ -14,23 +16,13 @@ word-of-requires-2 c κs = search needs
 word-of-requires-3 : tie.Need-word-of-requires-3
 word-of-requires-3 c κs = search needs
 
-word-of-requires-4 : tie.Need-word-of-requires-4
-word-of-requires-4 c κs = search needs
-
-word-of-requires-5 : tie.Need-word-of-requires-5
-word-of-requires-5 c κs = search needs
+is-clear-from-requires : tie.Need-is-clear-from-requires
+is-clear-from-requires c κs = search needs
 
 returns : tie.Need-returns
-unfolding hasWords allBelow
-returns c = let b = c .before .before .before .before in rw (b .word-of .ensures, c .before .before .before .word-of2 .ensures, c .before .before .word-of3 .ensures, c .before .word-of4 .ensures, c .word-of5 .ensures)
+returns c = search (has-words-so, needs)
 
 pub has-words-spec : {M : Type 1} → statement M
 has-words-spec =
     tie.close
-    (tie.spec
-    word-of-requires
-    word-of-requires-2
-    word-of-requires-3
-    word-of-requires-4
-    word-of-requires-5
-    returns)
+    (tie.spec kind-of-requires word-of-requires word-of-requires-2 word-of-requires-3 is-clear-from-requires returns)

@@ -10,11 +10,11 @@ use Rattle.record_rules.proofs.record_keeps.Tie as tie
 kind-of-requires : tie.Need-kind-of-requires
 kind-of-requires c κs = search needs
 
-has-words-requires : tie.Need-has-words-requires
-has-words-requires c κs = search needs
+is-clear-from-requires : tie.Need-is-clear-from-requires
+is-clear-from-requires c κs = search needs
 
 returns : tie.Need-returns
-returns c = free-keeps _ _ _ (c .before .before .kind-of .ensures) (c .before .if1 .taken) _ (c .has-words .ensures)
+returns c = free-keeps _ _ _ (c .before .before .kind-of .ensures) (c .before .if1 .taken) _ (c .is-clear-from .ensures)
 
 kind-of-requires-2 : tie.Need-kind-of-requires-2
 kind-of-requires-2 c κs = search needs
@@ -68,7 +68,7 @@ record-keeps-spec =
     tie.close
     (tie.spec
     kind-of-requires
-    has-words-requires
+    is-clear-from-requires
     returns
     kind-of-requires-2
     semaphore-keeps-requires

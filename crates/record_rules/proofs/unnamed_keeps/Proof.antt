@@ -1,4 +1,4 @@
--- The tests are the definition's at each kind.
+-- The tests are the definition's: the words after the last that the kind names.
 use borrow.Author.Needs.{needs}
 use Rattle.record_rules.proofs.RecordTests.{unnamed-so}
 use Rattle.record_rules.proofs.unnamed_keeps.Statement.{statement}
@@ -7,14 +7,14 @@ use Rattle.record_rules.proofs.unnamed_keeps.Tie as tie
 kind-of-requires : tie.Need-kind-of-requires
 kind-of-requires c κs = search needs
 
-word-of-requires : tie.Need-word-of-requires
-word-of-requires c κs = search needs
+named-words-requires : tie.Need-named-words-requires
+named-words-requires c κs = search needs
 
-word-of-requires-2 : tie.Need-word-of-requires-2
-word-of-requires-2 c κs = search needs
+add-is-clear-from : tie.Need-add-is-clear-from
+add-is-clear-from c = search needs
 
-word-of-requires-3 : tie.Need-word-of-requires-3
-word-of-requires-3 c κs = search needs
+is-clear-from-requires : tie.Need-is-clear-from-requires
+is-clear-from-requires c κs = search needs
 
 returns : tie.Need-returns
 returns c = search (unnamed-so, needs)
@@ -22,4 +22,4 @@ returns c = search (unnamed-so, needs)
 pub unnamed-keeps-spec : {M : Type 1} → statement M
 unnamed-keeps-spec =
     tie.close
-    (tie.spec kind-of-requires word-of-requires word-of-requires-2 word-of-requires-3 returns)
+    (tie.spec kind-of-requires named-words-requires add-is-clear-from is-clear-from-requires returns)

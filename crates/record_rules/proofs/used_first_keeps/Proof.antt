@@ -7,8 +7,8 @@ use Rattle.record_rules.proofs.used_first_keeps.Tie as tie
 kind-of-requires : tie.Need-kind-of-requires
 kind-of-requires c κs = search needs
 
-has-words-requires : tie.Need-has-words-requires
-has-words-requires c κs = search needs
+is-clear-from-requires : tie.Need-is-clear-from-requires
+is-clear-from-requires c κs = search needs
 
 returns : tie.Need-returns
 returns c = search (free-so, needs)
@@ -30,7 +30,7 @@ used-first-keeps-spec =
     tie.close
     (tie.spec
     kind-of-requires
-    has-words-requires
+    is-clear-from-requires
     returns
     returns-2
     sub-kind-of
