@@ -19,7 +19,7 @@ use Rattle.interface.proofs.Basics.PutLaws.{put-same, put-other}
 use Rattle.places.specs.Table.{Sized as SizedPlaces}
 use Rattle.places.proofs.CapTableLaws.{length-cap-table, cap-at-table-below, cap-table-back, cap-table-same}
 use Rattle.objects.specs.Records.{Sized as SizedObjects, fiveWords}
-use Rattle.objects.proofs.RecordTableLaws.{length-record-table, object-at-table, object-at-end, five-words-end, put-record-end, record-table-back, record-table-same}
+use Rattle.objects.proofs.RecordTableLaws.{length-record-table, object-at-table, object-at-end, words-end, put-record-end, record-table-back, record-table-same}
 
 -- a place table whose places below a number hold what they do at boot
 pub record PlacesBelow (number : ℕ) (table : List ℕ) : Type 0 where
@@ -69,7 +69,7 @@ next-record number object kind first second third fourth table after below small
     let objects = put (objectAt table) number row in
     let stored : after ≡ recordTable objects = rw is-object at is-after in
     let ends =
-    put-record-end (objectAt table) number row small (object-at-end table (below .size)) (five-words-end kind first second third fourth)
+    put-record-end (objectAt table) number row small (object-at-end table (below .size)) (words-end (fiveWords kind first second third fourth) (omega arith))
     in
     record {
       size = rw stored (length-record-table objects);

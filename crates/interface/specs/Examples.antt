@@ -320,9 +320,12 @@ JournalStops =
     (replay (11 ∷ 0 ∷ 0 ∷ 0 ∷ 0 ∷ 0 ∷ 0 ∷ 0 ∷ 0 ∷ 0 ∷ 0 ∷ 0 ∷ 0 ∷ []) ≡ done 0 11 18 0 ∷ ended 1 ∷ [])
     ∷ [])
 
--- the five words of a record at boot, and the four words of a place
+-- the words of a record at boot, some words with zeros after them up to a record's width, and the four words of a place
 abbrev pub bootWords : ℕ → List ℕ
 bootWords number = listed recordWords (boot .objects number)
+
+abbrev pub padded : List ℕ → List ℕ
+padded words = listed recordWords (word words)
 
 abbrev pub bootPlace : ℕ → List ℕ
 bootPlace place = capWords (boot .caps place)
@@ -382,8 +385,8 @@ LayoutNumbers =
     ∷  -- places: the first of domain 0's I/O and object spaces, the root's PD, the last of all; how many there are, and the words of both tables
     (placeOf 0 1 0 ∷ placeOf 0 2 0 ∷ placeOf 1 2 32 ∷ placeOf 7 2 63 ∷ places ∷ placeTableWords ∷ objectTableWords ∷ [] ≡
     64 ∷ 128 ∷ 352 ∷ 1535 ∷ 1536 ∷ 6144 ∷ 320 ∷ [])
-    ∷  -- domains, records, CPUs, interrupts, the greatest depth and the greatest word
-    (domains ∷ records ∷ cpus ∷ gsis ∷ greatestDepth ∷ greatestWord ∷ [] ≡ 8 ∷ 64 ∷ 4 ∷ 24 ∷ 31 ∷ 4294967295 ∷ [])
+    ∷  -- domains, records and the words of one, CPUs, interrupts, the greatest depth and the greatest word
+    (domains ∷ records ∷ recordWords ∷ cpus ∷ gsis ∷ greatestDepth ∷ greatestWord ∷ [] ≡ 8 ∷ 64 ∷ 5 ∷ 4 ∷ 24 ∷ 31 ∷ 4294967295 ∷ [])
     ∷  -- an object selector wraps: the root's 96 is its 32
     (objectPlace 1 96 ≡ 352)
     ∷ [])
@@ -393,14 +396,14 @@ abbrev pub BootNumbers : Type 0
 BootNumbers =
     Each
     ( -- boot's records: the first and the last idle SC, the first and the last interrupt semaphore, the root's PD, EC and SC, and the first that is free
-    (bootWords 0 ≡ 3 ∷ 64 ∷ 0 ∷ 0 ∷ 0 ∷ [])
-    ∷ (bootWords 3 ≡ 3 ∷ 64 ∷ 0 ∷ 0 ∷ 0 ∷ [])
-    ∷ (bootWords 4 ≡ 5 ∷ 0 ∷ 0 ∷ 0 ∷ 0 ∷ [])
-    ∷ (bootWords 27 ≡ 5 ∷ 0 ∷ 0 ∷ 0 ∷ 0 ∷ [])
-    ∷ (bootWords 28 ≡ 1 ∷ 1 ∷ 0 ∷ 0 ∷ 0 ∷ [])
-    ∷ (bootWords 29 ≡ 2 ∷ 1 ∷ 0 ∷ 0 ∷ 0 ∷ [])
-    ∷ (bootWords 30 ≡ 3 ∷ 29 ∷ 1 ∷ 10000 ∷ 0 ∷ [])
-    ∷ (bootWords 31 ≡ 0 ∷ 0 ∷ 0 ∷ 0 ∷ 0 ∷ [])
+    (bootWords 0 ≡ padded (3 ∷ 64 ∷ []))
+    ∷ (bootWords 3 ≡ padded (3 ∷ 64 ∷ []))
+    ∷ (bootWords 4 ≡ padded (5 ∷ []))
+    ∷ (bootWords 27 ≡ padded (5 ∷ []))
+    ∷ (bootWords 28 ≡ padded (1 ∷ 1 ∷ []))
+    ∷ (bootWords 29 ≡ padded (2 ∷ 1 ∷ []))
+    ∷ (bootWords 30 ≡ padded (3 ∷ 29 ∷ 1 ∷ 10000 ∷ []))
+    ∷ (bootWords 31 ≡ padded [])
     ∷  -- boot's places: page 63, port 0, the first idle SC and the first interrupt semaphore, the last one, and the null place after it
     (bootPlace 63 ≡ 63 ∷ 7 ∷ 0 ∷ 0 ∷ [])
     ∷ (bootPlace 64 ≡ 0 ∷ 1 ∷ 0 ∷ 0 ∷ [])

@@ -4,19 +4,20 @@ use mathlib.Core.Path.{_≡_, refl, sym, ap, _∙_, fun-ext}
 use mathlib.Core.Bool.{true, false}
 use mathlib.Core.Logic.{_≢_}
 use mathlib.Core.List.{List, [], _∷_, _++_}
-use native.Mathlib.Nat.{add-zero}
 use native.Mathlib.Omega.{arith}
-use lib.Dec.{eqb, ltb}
+use lib.Dec.{eqb, ltb, eqb·suc-suc}
 use lib.ListN.{length, set, replicate, length-set, List·getD-eq-default}
 use lib.Seq.{ext-getD, getD-set-same, getD-set-other}
-use borrow.Author.Tests.{eqb-true, eqb-false, lt-ltb, le-ltb}
+use borrow.Author.Tests.{eqb-true, eqb-false, ltb-true, ltb-false, ne-eqb, lt-ltb, le-ltb}
 use Rattle.words.specs.Sizes.{records, recordWords}
-use Rattle.interface.specs.Basics.{word, put}
-use Rattle.interface.specs.Places.{State, nothing, kindWord, countWord, objectTableWords, objectAt, recordTable}
-use Rattle.interface.proofs.Basics.BoolLaws.{cases}
+use Rattle.interface.specs.Basics.{word, put, if_then_else_}
+use Rattle.interface.specs.Places.{State, nothing, kindWord, countWord, objectTableWords, objectAt, recordTable, Cap}
+use Rattle.interface.proofs.Basics.BoolLaws.{cases, either-way}
 use Rattle.interface.proofs.Basics.PutLaws.{put-same, put-other}
 use Rattle.interface.proofs.Tables.TableLaws.{length-listed, word-listed, shown-tables}
-use Rattle.objects.specs.Records.{Sized, fiveWords}
+use Rattle.objects.specs.Records.{Sized, fiveWords, storedWord}
+use Rattle.interface.specs.Creations.{freeRecord}
+use Rattle.interface.specs.Damage.{pdsBelow}
 
 -- records end where the object table does
 pub record RecordsEnd (objects : ℕ → ℕ → ℕ) : Type 0 where
@@ -61,10 +62,6 @@ unfolding objectAt
 object-at-word table number index l =
     rw (lt-ltb index recordWords l) (let e : number * recordWords + index ≡ recordWords * number + index = omega arith in ap (word table) e)
 
--- and where it has a record's kind
-pub object-at-kind : (table : List ℕ) (number : ℕ) → word table (number * recordWords) ≡ objectAt table number kindWord
-object-at-kind table number = rw add-zero at (object-at-word table number kindWord (omega arith))
-
 module _ (table : List ℕ) (size : Sized table) where
   pub object-at-end : RecordsEnd (objectAt table)
   unfolding objectAt
@@ -91,11 +88,19 @@ module _ (table : List ℕ) (size : Sized table) where
 abbrev pub WordsEnd : (ℕ → ℕ) → Type 0
 WordsEnd row = (i : ℕ) → recordWords ≤ i → row i ≡ 0
 
-pub five-words-end : (kind first second third fourth : ℕ) → WordsEnd (word (fiveWords kind first second third fourth))
-five-words-end kind first second third fourth i l = List·getD-eq-default (fiveWords kind first second third fourth) 0 l
+pub words-end : (words : List ℕ) → length words ≤ recordWords → WordsEnd (word words)
+words-end words short i l = List·getD-eq-default words 0 (omega arith)
 
-pub put-word-end : (row : ℕ → ℕ) (index value : ℕ) → index < recordWords → WordsEnd row → WordsEnd (put row index value)
-put-word-end row index value l ends i o = rw (put-other row index value i (omega arith)) (ends i o)
+-- a value put after some words is the next of them
+next-at : (words : List ℕ) (value i : ℕ) → put (word words) (length words) value i ≡ word (words ++ (value ∷ [])) i
+unfolding put
+next-at [] value zero = refl
+next-at [] value (suc i) = rw (ne-eqb (suc i) 0 (λ e. omega arith))
+next-at (first ∷ words) value zero = rw (ne-eqb 0 (suc (length words)) (λ e. omega arith))
+next-at (first ∷ words) value (suc i) = rw (eqb·suc-suc i (length words)) (next-at words value i)
+
+put-next : (words : List ℕ) (value : ℕ) → put (word words) (length words) value ≡ word (words ++ (value ∷ []))
+put-next words value = fun-ext (next-at words value)
 
 pub put-record-end : (objects : ℕ → ℕ → ℕ) (number : ℕ) (row : ℕ → ℕ) → number < records → RecordsEnd objects → WordsEnd row →
     RecordsEnd (put objects number row)
@@ -158,51 +163,103 @@ module _ (objects : ℕ → ℕ → ℕ) (number : ℕ) where
         )
         (word-record-table (put objects number row) i o)))
 
--- five words stored in turn are the words of a record
-five-words : (row : ℕ → ℕ) (kind first second third fourth i : ℕ) → i < recordWords →
-    put (put (put (put (put row 0 kind) 1 first) 2 second) 3 third) 4 fourth i ≡ word (fiveWords kind first second third fourth) i
-unfolding put
-five-words row kind first second third fourth zero l = refl
-five-words row kind first second third fourth (suc zero) l = refl
-five-words row kind first second third fourth (suc (suc zero)) l = refl
-five-words row kind first second third fourth (suc (suc (suc zero))) l = refl
-five-words row kind first second third fourth (suc (suc (suc (suc zero)))) l = refl
-five-words row kind first second third fourth (suc (suc (suc (suc (suc i))))) l = absurd (omega arith)
+-- the store of a word of a record
+pub word-stored : (table : List ℕ) (number index value : ℕ) → Sized table → number < records → index < recordWords →
+    set table (number * recordWords + index) value ≡ storedWord table number index value
+word-stored table number index value size small l =
+    let objects = objectAt table in
+    stored objects number (objects number) index value {table = table} small l (rw (put-back objects number) (sym (record-table-back table size)))
 
-module _ (table : List ℕ) (number : ℕ) (size : Sized table) (small : number < records) where
-  own-row : table ≡ recordTable (put (objectAt table) number (objectAt table number))
-  own-row = rw (put-back (objectAt table) number) (sym (record-table-back table size))
+-- a word stored in a record that has a row already
+module _ (objects : ℕ → ℕ → ℕ) (number : ℕ) (row : ℕ → ℕ) where
+  put-again : (other : ℕ → ℕ) → put (put objects number row) number other ≡ put objects number other
+  put-again other =
+      fun-ext
+      (λ r.
+      cases (eqb r number)
+      (λ (t : eqb r number ≡ true). rw (eqb-true r number t, put-same (put objects number row) number other, put-same objects number other))
+      (λ (f : eqb r number ≡ false).
+      let apart = eqb-false r number f in
+      put-other (put objects number row) number other r apart ∙ put-other objects number row r apart ∙ sym (put-other objects number other r apart)))
 
-  -- the store of a semaphore's count
-  pub counted : (value : ℕ) →
-      set table (number * recordWords + countWord) value ≡ recordTable (put (objectAt table) number (put (objectAt table number) countWord value))
-  counted value = stored (objectAt table) number (objectAt table number) countWord value small (omega arith) own-row
+  stored-more : (index value : ℕ) → number < records → RecordsEnd objects → WordsEnd row →
+      storedWord (recordTable (put objects number row)) number index value ≡ recordTable (put objects number (put row index value))
+  stored-more index value l ends row-ends =
+      rw (
+        object-at-table (put objects number row) (put-record-end objects number row l ends row-ends),
+        put-same objects number row,
+        put-again (put row index value),
+      )
 
-  -- the store of a record's kind
-  kind-stored : (kind : ℕ) →
-      set table (number * recordWords) kind ≡ recordTable (put (objectAt table) number (put (objectAt table number) kindWord kind))
-  kind-stored kind =
-      rw add-zero at (stored (objectAt table) number (objectAt table number) kindWord kind small (omega arith) own-row)
+-- a row with 0 for its words below a number
+abbrev clearedBelow : (ℕ → ℕ) → ℕ → ℕ → ℕ
+clearedBelow row index i = if ltb i index then 0 else row i
 
-  -- the stores of a record's words
-  pub made : (kind first second third fourth : ℕ) →
-      let at = number * recordWords in
-      set (set (set (set (set table at kind) (at + 1) first) (at + 2) second) (at + 3) third) (at + 4) fourth ≡
-      recordTable (put (objectAt table) number (word (fiveWords kind first second third fourth)))
-  made kind first second third fourth =
-      let objects = objectAt table in
-      let row0 = put (objects number) 0 kind in
-      let row1 = put row0 1 first in
-      let row2 = put row1 2 second in
-      let row3 = put row2 3 third in
-      let row4 = put row3 4 fourth in
-      let row = word (fiveWords kind first second third fourth) in
-      stored objects number row3 4 fourth small (omega arith)
-      (stored objects number row2 3 third small (omega arith)
-      (stored objects number row1 2 second small (omega arith)
-      (stored objects number row0 1 first small (omega arith) (kind-stored kind))))
-      ∙ record-table-same (put objects number row4) (put objects number row)
-      (λ r i l k. put-agrees objects number row4 row r i (λ e. five-words (objects number) kind first second third fourth i k))
+cleared-next : (row : ℕ → ℕ) (index : ℕ) → put (clearedBelow row index) index 0 ≡ clearedBelow row (index + 1)
+cleared-next row index =
+    fun-ext
+    (λ i.
+    cases (eqb i index)
+    (λ (t : eqb i index ≡ true).
+    let e = eqb-true i index t in
+    rw (e, put-same (clearedBelow row index) index 0, lt-ltb index (index + 1) (omega arith)))
+    (λ (f : eqb i index ≡ false).
+    let apart = eqb-false i index f in
+    put-other (clearedBelow row index) index 0 i apart ∙
+    cases (ltb i index)
+    (λ (t : ltb i index ≡ true). let l = ltb-true i index t in rw (t, lt-ltb i (index + 1) (omega arith)))
+    (λ (g : ltb i index ≡ false). let l = ltb-false i index g in rw (g, le-ltb i (index + 1) (omega (arith, apart))))))
+
+-- a table that is another with the words of a record below a number cleared
+pub record Cleared (before : List ℕ) (number index : ℕ) (table : List ℕ) : Type 0 where
+  pub size : Sized table
+  pub so-far : table ≡ recordTable (put (objectAt before) number (clearedBelow (objectAt before number) index))
+
+-- clearing a record word by word, and then storing words in it
+module _ (before : List ℕ) (number : ℕ) (size : Sized before) where
+  pub cleared-none : Cleared before number 0 before
+  cleared-none =
+      let all : clearedBelow (objectAt before number) 0 ≡ objectAt before number = fun-ext (λ i. rw (le-ltb i 0 (omega arith))) in
+      record { size = size; so-far = rw (all, put-back (objectAt before) number) (sym (record-table-back before size)) }
+
+  pub cleared-more : (index : ℕ) {table after : List ℕ} → number < records → Cleared before number index table → after ≡ storedWord table number index 0 →
+      Cleared before number (index + 1) after
+  cleared-more index {table} l c is-after =
+      let objects = objectAt before in
+      let ends = object-at-end before size in
+      let row = clearedBelow (objects number) index in
+      let row-ends : WordsEnd row = λ i o. either-way (λ (w : ℕ). w ≡ 0) (ltb i index) 0 (objects number i) refl (ends .words-end number i o) in
+      record {
+        size = rw is-after (length-record-table (put (objectAt table) number (put (objectAt table number) index 0)));
+        so-far = rw (is-after, c .so-far) (stored-more objects number row index 0 l ends row-ends ∙ ap (λ (w : ℕ → ℕ). recordTable (put objects number w)) (cleared-next (objects number) index));
+      }
+
+  pub cleared-all : (index : ℕ) {table : List ℕ} → recordWords ≤ index → Cleared before number index table →
+      table ≡ recordTable (put (objectAt before) number (word []))
+  cleared-all index past c =
+      let row = clearedBelow (objectAt before number) index in
+      c .so-far ∙
+      record-table-same (put (objectAt before) number row) (put (objectAt before) number (word []))
+      (λ r i l k. put-agrees (objectAt before) number row (word []) r i (λ same. rw (lt-ltb i index (omega arith))))
+
+  -- the word after some words of a record whose other words are 0
+  next-word : (words : List ℕ) (value : ℕ) {table after : List ℕ} → number < records → length words ≤ recordWords →
+      table ≡ recordTable (put (objectAt before) number (word words)) → after ≡ storedWord table number (length words) value →
+      after ≡ recordTable (put (objectAt before) number (word (words ++ (value ∷ []))))
+  next-word words value l short e s =
+      rw (s, e)
+      (stored-more (objectAt before) number (word words) (length words) value l (object-at-end before size) (words-end words short) ∙
+      ap (λ (row : ℕ → ℕ). recordTable (put (objectAt before) number row)) (put-next words value))
+
+  -- the stores of a new object's words in turn
+  pub made : (kind first second third fourth : ℕ) {none one two three four five : List ℕ} → number < records →
+      none ≡ recordTable (put (objectAt before) number (word [])) → one ≡ storedWord none number kindWord kind → two ≡ storedWord one number 1 first →
+      three ≡ storedWord two number 2 second → four ≡ storedWord three number 3 third → five ≡ storedWord four number 4 fourth →
+      five ≡ recordTable (put (objectAt before) number (word (fiveWords kind first second third fourth)))
+  made kind first second third fourth l e a b c d f =
+      next-word (kind ∷ first ∷ second ∷ third ∷ []) fourth l (omega arith)
+      (next-word (kind ∷ first ∷ second ∷ []) third l (omega arith)
+      (next-word (kind ∷ first ∷ []) second l (omega arith) (next-word (kind ∷ []) first l (omega arith) (next-word [] kind l (omega arith) e a) b) c) d) f
 
 -- zeros after a list of words change none of them
 pub short-words : (words : List ℕ) (zeros : ℕ) → word (words ++ replicate zeros 0) ≡ word words

@@ -1,9 +1,10 @@
--- An object table as a list of words: its length, and its records as a state.
+-- An object table as a list of words: its length, its records as a state, and what a store makes of it.
 use Prim.Native.Nat.{ℕ}
 use mathlib.Core.Path.{_≡_}
 use mathlib.Core.List.{List, [], _∷_}
 use lib.ListN.{length}
-use Rattle.interface.specs.Places.{State, nothing, objectTableWords, objectAt}
+use Rattle.interface.specs.Basics.{put}
+use Rattle.interface.specs.Places.{State, nothing, objectTableWords, objectAt, recordTable}
 
 -- a list that has the object table's length
 abbrev pub Sized : List ℕ → Type 0
@@ -13,6 +14,10 @@ Sized table = length table ≡ objectTableWords
 abbrev pub recordsIn : List ℕ → State
 recordsIn table = record { caps = λ p. nothing; objects = objectAt table }
 
--- the words of an object: its kind and four more
+-- a table with a value stored in a word of a record
+abbrev pub storedWord : List ℕ → ℕ → ℕ → ℕ → List ℕ
+storedWord table number index value = recordTable (put (objectAt table) number (put (objectAt table number) index value))
+
+-- the words of a new object: its kind and the four words after it; those after the list are 0
 abbrev pub fiveWords : ℕ → ℕ → ℕ → ℕ → ℕ → List ℕ
 fiveWords kind first second third fourth = kind ∷ first ∷ second ∷ third ∷ fourth ∷ []

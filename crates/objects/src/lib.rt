@@ -1,13 +1,14 @@
 // The object table: kinds of objects and their permissions, words of records, storing them, and what is counted in it.
 ghost use mathlib.Core.Path.{_≡_};
+ghost use mathlib.Core.List.{[]};
 ghost use Prim.Native.Nat.{_<_};
 ghost use Rattle.words.specs.Sizes.{records, recordWords};
 ghost use Rattle.descriptor.specs.Numbers.{numbered};
 ghost use Rattle.interface.specs.Basics.{word, put};
-ghost use Rattle.interface.specs.Places.{kindWord, countWord, greatestOf, greatest, objectAt, recordTable};
+ghost use Rattle.interface.specs.Places.{kindWord, countWord, greatestOf, greatest, objectAt, recordTable, namedWords};
 ghost use Rattle.interface.specs.Damage.{pdsBelow};
 ghost use Rattle.interface.specs.Creations.{freeRecord};
-ghost use Rattle.objects.specs.Records.{Sized, recordsIn, fiveWords};
+ghost use Rattle.objects.specs.Records.{Sized, recordsIn, fiveWords, storedWord};
 use descriptor::FoundObject;
 use descriptor::ObjectNumber;
 use words::sizes;
@@ -28,14 +29,23 @@ pub const SM: u32 = 5;
 // The number of CPUs.
 pub const CPUS: u32 = 4;
 
-// Where a record has its words: the kind; a PD's or an EC's domain; an EC's CPU; the EC of an SC or a PT; an SM's count.
+// Where a record has its words: the kind; a PD's or an EC's domain; an EC's CPU and event base; the EC of an SC or a PT; an SC's priority and quantum; a PT's
+// identifier, the last of its words; an SM's count.
 pub const KIND: usize = 0;
 
 pub const DOMAIN: usize = 1;
 
 pub const CPU: usize = 2;
 
+pub const EVENT_BASE: usize = 3;
+
 pub const BOUND_EC: usize = 1;
+
+pub const PRIORITY: usize = 2;
+
+pub const QUANTUM: usize = 3;
+
+pub const IDENTIFIER: usize = 4;
 
 pub const COUNT: usize = 1;
 
@@ -66,6 +76,20 @@ pub fn greatest_permissions(space: u32, kind: u32) -> u32
     greatest_of(kind)
 }
 
+// How many words after the kind a record of a kind names: the last of them has this index.
+pub fn named_words(kind: u32) -> usize
+    ensures { λ r. ⌜ (r ≡ namedWords kind) × (r < recordWords) ⌝ }
+{
+    match kind {
+        PD => DOMAIN,
+        EC => EVENT_BASE,
+        SC => QUANTUM,
+        PT => IDENTIFIER,
+        SM => COUNT,
+        _ => KIND,
+    }
+}
+
 // A word of a record.
 pub fn load(table: &[u32], number: ObjectNumber, index: usize) -> u32
     requires { ⌜ Sized (now table) × (number .0 < records) × (index < recordWords) ⌝ }
@@ -85,7 +109,26 @@ pub fn kind_named(table: &[u32], resource: u32) -> u32
     load(table, number, KIND)
 }
 
-// Stores the words of a record.
+// Stores a word of a record.
+pub fn set(table: &mut [u32], number: ObjectNumber, index: usize, value: u32)
+    requires { ⌜ Sized (now table) × (number .0 < records) × (index < recordWords) ⌝ }
+    ensures { λ r. ⌜ now (table .exit) ≡ storedWord (now (table .entry)) (number .0) index value ⌝ }
+{
+    let at = number.words_start() + index;
+    table[at] = value;
+}
+
+// Stores 0 in each word of a record.
+fn clear(table: &mut [u32], number: ObjectNumber)
+    requires { ⌜ Sized (now table) × (number .0 < records) ⌝ }
+    ensures { λ r. ⌜ now (table .exit) ≡ recordTable (put (objectAt (now (table .entry))) (number .0) (word [])) ⌝ }
+{
+    for index in 0..sizes::RECORD_WORDS {
+        set(table, number, index, 0);
+    }
+}
+
+// Stores the words of a new object: its kind and the four words after it, and 0 in the others.
 pub fn make(
     table: &mut [u32],
     number: ObjectNumber,
@@ -98,20 +141,20 @@ pub fn make(
     requires { ⌜ Sized (now table) × (number .0 < records) ⌝ }
     ensures { λ r. ⌜ now (table .exit) ≡ recordTable (put (objectAt (now (table .entry))) (number .0) (word (fiveWords kind first second third fourth))) ⌝ }
 {
-    let at = number.words_start();
-    table[at] = kind;
-    table[at + 1] = first;
-    table[at + 2] = second;
-    table[at + 3] = third;
-    table[at + 4] = fourth;
+    clear(table, number);
+    set(table, number, KIND, kind);
+    set(table, number, 1, first);
+    set(table, number, 2, second);
+    set(table, number, 3, third);
+    set(table, number, 4, fourth);
 }
 
 // Stores a semaphore's count.
 pub fn set_count(table: &mut [u32], number: ObjectNumber, value: u32)
     requires { ⌜ Sized (now table) × (number .0 < records) ⌝ }
-    ensures { λ r. ⌜ now (table .exit) ≡ recordTable (put (objectAt (now (table .entry))) (number .0) (put (objectAt (now (table .entry)) (number .0)) countWord value)) ⌝ }
+    ensures { λ r. ⌜ now (table .exit) ≡ storedWord (now (table .entry)) (number .0) countWord value ⌝ }
 {
-    table[number.words_start() + COUNT] = value;
+    set(table, number, COUNT, value);
 }
 
 // The lowest free record, if one is free.

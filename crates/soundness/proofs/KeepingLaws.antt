@@ -1,55 +1,26 @@
 -- The rules of damage taken together: a state is sound exactly where its PDs, its other records and its places keep theirs.
 use Prim.Native.Nat.{ℕ}
-use mathlib.Core.Path.{_≡_, refl, sym, _∙_}
+use mathlib.Core.Path.{_≡_, sym, _∙_}
 use mathlib.Core.Bool.{Bool, true, false, not, _&&_}
 use mathlib.Core.List.{List}
 use native.Mathlib.Omega.{arith}
 use lib.Dec.{eqb}
 use lib.ListN.{length}
-use borrow.Author.Tests.{eqb-true, not-true, not-false}
+use borrow.Author.Tests.{eqb-true}
 use Rattle.words.specs.Sizes.{stride, places, records}
 use Rattle.interface.specs.Basics.{allBelow}
 use Rattle.interface.specs.Places.{Cap, State, Tables, nothing, placeTableWords, objectTableWords, sized, shown}
-use Rattle.interface.specs.Damage.{fixed-record, fixed-place, interrupt-rule, unnamed-rule, used-first, pdsBelow, pd-rule, hasPd, isEc, ec-rule, sc-rule, pt-rule, null-place, live-place, shallow, soundState, sound}
-use Rattle.interface.proofs.Basics.BoolLaws.{cases, not-both, and-left, and-right, both, same-test, each-of-four}
+use Rattle.interface.specs.Damage.{fixed-place, pdsBelow, pd-rule, soundState, sound}
+use Rattle.interface.proofs.Basics.BoolLaws.{cases, and-left, and-right, both, same-test}
 use Rattle.interface.proofs.Basics.BelowLaws.{all-below-at, all-below}
 use Rattle.interface.proofs.Sound.Soundness.{OfRecords, OfPlaces, sound-facts, facts-sound}
-use Rattle.soundness.specs.Keeping.{recordsIn, placesIn, recordKeeps, placeKeeps, Numbered, Kept}
-
--- a test that a call answered, by what the code made of the answer
-pub answered-yes : (answer test : Bool) → answer ≡ test → not answer ≡ false → test ≡ true
-answered-yes answer test e f = sym e ∙ not-false answer f
-
-answered-no : {C : Type 0} (answer test : Bool) → answer ≡ test → not answer ≡ true → test ≡ true → C
-answered-no answer test e f t = not-both test t (sym e ∙ not-true answer f)
-
--- what the capabilities are does not matter to the rules of records
-pub caps-apart : (caps others : ℕ → Cap) (objects : ℕ → ℕ → ℕ) (r : ℕ) →
-    recordKeeps (record { caps = caps; objects = objects }) r ≡ recordKeeps (record { caps = others; objects = objects }) r
-unfolding fixed-record interrupt-rule unnamed-rule used-first hasPd isEc ec-rule sc-rule pt-rule recordKeeps
-caps-apart caps others objects r = refl
+use Rattle.record_rules.specs.RecordKeeping.{recordsIn, recordKeeps, Numbered, Kept}
+use Rattle.record_rules.proofs.LoopLaws.{answered-yes, answered-no}
+use Rattle.record_rules.proofs.RecordParts.{caps-apart, record-parts}
+use Rattle.place_rules.specs.PlaceKeeping.{placesIn, placeKeeps}
+use Rattle.place_rules.proofs.PlaceTests.{place-parts}
 
 module _ (s : State) where
-  -- a record that keeps the rules together keeps each, and so does a place
-  pub record-parts : (r : ℕ) → recordKeeps s r ≡ true →
-      ((fixed-record s r ≡ true) × (interrupt-rule s r ≡ true) × (unnamed-rule s r ≡ true) × (used-first s r ≡ true)) ×
-      (ec-rule s r ≡ true) × (sc-rule s r ≡ true) × (pt-rule s r ≡ true)
-  unfolding recordKeeps
-  record-parts r h =
-      let first = fixed-record s r && interrupt-rule s r && unnamed-rule s r && used-first s r in
-      let six = and-left (first && ec-rule s r && sc-rule s r) (pt-rule s r) h in
-      let five = and-left (first && ec-rule s r) (sc-rule s r) six in (
-        each-of-four (fixed-record s r) (interrupt-rule s r) (unnamed-rule s r) (used-first s r) (and-left first (ec-rule s r) five),
-        and-right first (ec-rule s r) five,
-        and-right (first && ec-rule s r) (sc-rule s r) six,
-        and-right (first && ec-rule s r && sc-rule s r) (pt-rule s r) h,
-      )
-
-  pub place-parts : (p : ℕ) → placeKeeps s p ≡ true →
-      (fixed-place s p ≡ true) × (null-place s p ≡ true) × (live-place s p ≡ true) × (shallow s p ≡ true)
-  unfolding placeKeeps
-  place-parts p h = each-of-four (fixed-place s p) (null-place s p) (live-place s p) (shallow s p) h
-
   -- the three parts of a state keep their rules
   pub record Parts : Type 0 where
     pub pds : OfRecords (pd-rule s)
@@ -71,18 +42,18 @@ module _ (s : State) where
   parts-sound k =
       facts-sound s
       (record {
-        fixed-records = λ r l. record-parts r (k .others r l) .0 .0;
-        fixed-places = λ p l. place-parts p (k .all-places p l) .0;
-        interrupts = λ r l. record-parts r (k .others r l) .0 .1;
-        unnameds = λ r l. record-parts r (k .others r l) .0 .2;
-        used-firsts = λ r l. record-parts r (k .others r l) .0 .3;
+        fixed-records = λ r l. record-parts s r (k .others r l) .0 .0;
+        fixed-places = λ p l. place-parts s p (k .all-places p l) .0;
+        interrupts = λ r l. record-parts s r (k .others r l) .0 .1;
+        unnameds = λ r l. record-parts s r (k .others r l) .0 .2;
+        used-firsts = λ r l. record-parts s r (k .others r l) .0 .3;
         pds = k .pds;
-        ecs = λ r l. record-parts r (k .others r l) .1;
-        scs = λ r l. record-parts r (k .others r l) .2;
-        pts = λ r l. record-parts r (k .others r l) .3;
-        nulls = λ p l. place-parts p (k .all-places p l) .1;
-        lives = λ p l. place-parts p (k .all-places p l) .2;
-        shallows = λ p l. place-parts p (k .all-places p l) .3;
+        ecs = λ r l. record-parts s r (k .others r l) .1;
+        scs = λ r l. record-parts s r (k .others r l) .2;
+        pts = λ r l. record-parts s r (k .others r l) .3;
+        nulls = λ p l. place-parts s p (k .all-places p l) .1;
+        lives = λ p l. place-parts s p (k .all-places p l) .2;
+        shallows = λ p l. place-parts s p (k .all-places p l) .3;
       })
 
 -- tables that have the right lengths

@@ -1,9 +1,4 @@
 -- The laws that the functions' proofs cite.
-pub mod LoopLaws
-pub mod RecordTests
-pub mod PdLaws
-pub mod PlaceTests
+pub mod LowestLaws
 pub mod KeepingLaws
-pub mod HypervisorLaws
 pub mod FaultLaws
-pub mod QuickLaws

@@ -1,2 +1,2 @@
--- What the functions of the damage test cite beside the rules of damage themselves.
-pub mod Keeping
+-- What the search for the first fault cites beside the rules of damage themselves.
+pub mod RuleNumbers

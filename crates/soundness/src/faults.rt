@@ -5,9 +5,8 @@ ghost use lib.ListN.{length};
 ghost use Rattle.words.specs.Sizes.{places, records};
 ghost use Rattle.interface.specs.Places.{Tables, objectTableWords, placeTableWords, shown};
 ghost use Rattle.interface.specs.Damage.{live-place};
-ghost use Rattle.soundness.specs.Keeping.{recordsIn, lowestFailing, firstRule, lastRule, ruleOf};
-use crate::place_rules;
-use crate::record_rules;
+ghost use Rattle.record_rules.specs.RecordKeeping.{recordsIn};
+ghost use Rattle.soundness.specs.RuleNumbers.{lowestFailing, firstRule, lastRule, ruleOf};
 use words::sizes;
 
 // The numbers of the first rule after that of lengths, and of the last.
@@ -29,7 +28,10 @@ fn record_keeps_rule(rule: u32, objects: &[u32], number: u32) -> bool
         7 => record_rules::ec_keeps(
             objects,
             number,
-            record_rules::has_pd(objects, record_rules::word_of(objects, number, 1)),
+            record_rules::has_pd(
+                objects,
+                record_rules::word_of(objects, number, objects::DOMAIN),
+            ),
         ),
         8 => record_rules::sc_keeps(objects, number),
         9 => record_rules::pt_keeps(objects, number),

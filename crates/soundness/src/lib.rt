@@ -6,8 +6,6 @@ use descriptor::Fault;
 use words::sizes;
 
 mod faults;
-mod place_rules;
-mod record_rules;
 
 // Whether two tables are sound.
 pub fn is_sound(places: &[u32], objects: &[u32]) -> bool

@@ -4,7 +4,7 @@ use mathlib.Core.Path.{_≡_}
 use borrow.Author.Needs.{needs}
 use Rattle.interface.specs.Places.{Tables, shown}
 use Rattle.interface.specs.Damage.{firstFault, fault}
-use Rattle.soundness.specs.Keeping.{firstRule, lastRule}
+use Rattle.soundness.specs.RuleNumbers.{firstRule, lastRule}
 use Rattle.soundness.proofs.KeepingLaws.{places-long, objects-long}
 use Rattle.soundness.proofs.FaultLaws.{rulesFrom, fault-lengths, fault-starts, fault-record, fault-place, fault-next, fault-none}
 use Rattle.soundness.proofs.first_fault.Statement.{statement}

@@ -1,7 +1,7 @@
 -- A null place keeps the rule, and a live one is tested with what the search for its domain's PD found.
 use borrow.Author.Needs.{needs}
-use Rattle.soundness.proofs.PdLaws.{home-found}
-use Rattle.soundness.proofs.PlaceTests.{live-null}
+use Rattle.record_rules.proofs.PdLaws.{home-found}
+use Rattle.place_rules.proofs.PlaceTests.{live-null}
 use Rattle.soundness.proofs.faults.live_or_null.Statement.{statement}
 use Rattle.soundness.proofs.faults.live_or_null.Tie as tie
 

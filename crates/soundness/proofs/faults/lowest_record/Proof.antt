@@ -5,8 +5,10 @@ use mathlib.Core.Bool.{true}
 use borrow.Author.Needs.{needs}
 use Rattle.words.specs.Sizes.{records}
 use Rattle.interface.specs.Basics.{allBelow}
-use Rattle.soundness.specs.Keeping.{recordsIn, ruleOf}
-use Rattle.soundness.proofs.LoopLaws.{all-below-none, all-below-more, lowest-first, lowest-none}
+use Rattle.record_rules.specs.RecordKeeping.{recordsIn}
+use Rattle.soundness.specs.RuleNumbers.{ruleOf}
+use Rattle.record_rules.proofs.LoopLaws.{all-below-none, all-below-more}
+use Rattle.soundness.proofs.LowestLaws.{lowest-first, lowest-none}
 use Rattle.soundness.proofs.faults.lowest_record.Statement.{statement}
 use Rattle.soundness.proofs.faults.lowest_record.Tie as tie
 

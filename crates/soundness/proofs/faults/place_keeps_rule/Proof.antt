@@ -1,7 +1,7 @@
 -- Each arm is the test of its rule, and the rules that are left say nothing of places.
 use borrow.Author.Needs.{needs}
 use Rattle.interface.specs.Damage.{fixed-place}
-use Rattle.soundness.proofs.PlaceTests.{null-test, shallow-test}
+use Rattle.place_rules.proofs.PlaceTests.{null-test, shallow-test}
 use Rattle.soundness.proofs.FaultLaws.{place-rule, no-place-rule}
 use Rattle.soundness.proofs.faults.place_keeps_rule.Statement.{statement}
 use Rattle.soundness.proofs.faults.place_keeps_rule.Tie as tie

@@ -1,6 +1,6 @@
 -- Each arm is the test of its rule, and the rules that are left say nothing of records.
 use borrow.Author.Needs.{needs}
-use Rattle.soundness.proofs.PdLaws.{home-own}
+use Rattle.record_rules.proofs.PdLaws.{home-own}
 use Rattle.soundness.proofs.FaultLaws.{record-rule, no-record-rule}
 use Rattle.soundness.proofs.faults.record_keeps_rule.Statement.{statement}
 use Rattle.soundness.proofs.faults.record_keeps_rule.Tie as tie

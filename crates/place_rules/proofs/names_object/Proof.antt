@@ -1,0 +1,24 @@
+-- A number past the records names no object.
+use denote.Ref.{now}
+use Rattle.interface.specs.Places.{kindWord, objectAt}
+use Rattle.place_rules.proofs.QuickLaws.{names-none, names-one}
+use borrow.Author.Needs.{needs}
+use Rattle.place_rules.proofs.names_object.Statement.{statement}
+use Rattle.place_rules.proofs.names_object.Tie as tie
+
+returns : tie.Need-returns
+returns c = names-none (c .before .before .before .args .cap .resource) (c .before .before .before .args .cap .permissions) (objectAt (now (c .before .before .before .args .objects)) (c .before .before .before .args .cap .resource) kindWord) (c .if1 .taken)
+
+kind-of-requires : tie.Need-kind-of-requires
+kind-of-requires c κs = search needs
+
+greatest-of-requires : tie.Need-greatest-of-requires
+greatest-of-requires c κs = search needs
+
+returns-2 : tie.Need-returns-2
+returns-2 c =
+    names-one (c .before .before .before .before .before .before .args .cap .resource) (c .before .before .before .before .before .before .args .cap .permissions) (objectAt (now (c .before .before .before .before .before .before .args .objects)) (c .before .before .before .before .before .before .args .cap .resource) kindWord) _ (search needs)
+    (rw (c .before .before .kind-of .ensures) at (c .before .greatest-of .ensures))
+
+pub names-object-spec : {M : Type 1} → statement M
+names-object-spec = tie.close (tie.spec returns kind-of-requires greatest-of-requires returns-2)

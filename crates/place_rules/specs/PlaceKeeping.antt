@@ -1,0 +1,94 @@
+-- What the functions over places cite beside the rules of damage: the rules of a place taken together, the parent of a capability, and a shorter test.
+use Prim.Native.Nat.{ℕ, _+_, _-_, _*_, _/_, _%_, _^_, _<_, _≤_}
+use mathlib.Core.Path.{_≡_}
+use mathlib.Core.Bool.{Bool, true, _&&_, _||_}
+use mathlib.Core.List.{List}
+use lib.Dec.{eqb, leb, ltb}
+use lib.ListN.{length}
+use Rattle.words.specs.Sizes.{object, selectors, start, stride, domainOf, spaceOf, places, placeWords, records, greatestDepth}
+use Rattle.words.specs.Permissions.{within}
+use Rattle.interface.specs.Basics.{if_then_else_, word, allBelow}
+use Rattle.interface.specs.Places.{Cap, State, Tables, live, nothing, parentless, kindOf, greatestOf, greatest, placeTableWords, objectTableWords, capAt, shown}
+use Rattle.interface.specs.Boot.{hypervisor, bootCap}
+use Rattle.interface.specs.Damage.{sameCap, fixed-place, hasPd, null-place, isResource, parentless-place, live-place, shallow}
+use Rattle.record_rules.specs.RecordKeeping.{Kept}
+use Rattle.place_rules.specs.declared.Extent.{Extent}
+
+-- what a place table alone shows
+abbrev pub placesIn : List ℕ → State
+placesIn table = record { caps = capAt table; objects = λ r i. 0 }
+
+-- whether a place keeps the rules of places
+unfoldable pub placeKeeps : State → ℕ → Bool
+placeKeeps s p = fixed-place s p && null-place s p && live-place s p && shallow s p
+
+-- whether a place may be the parent of a capability in a space: it is live, of that space and resource, includes the permissions and has a depth one less
+abbrev pub parentFits : State → ℕ → Cap → ℕ → Bool
+parentFits s space cap parent =
+    ltb parent places && live (s .caps parent) && eqb (spaceOf parent) space && eqb (s .caps parent .resource) (cap .resource) &&
+    within (cap .permissions) (s .caps parent .permissions) && eqb (s .caps parent .depth + 1) (cap .depth)
+
+-- the greatest permissions that a capability for a number in a space may have: none where the number is no resource's
+abbrev pub greatestAllowed : State → ℕ → ℕ → ℕ
+greatestAllowed s space resource = if isResource s space resource then greatest space (kindOf s resource) else 0
+
+-- whether a place has a fitting parent or none
+abbrev pub lineageKeeps : State → ℕ → Bool
+lineageKeeps s p = if eqb (s .caps p .parent) 0 then parentless-place s p else parentFits s (spaceOf p) (s .caps p) (s .caps p .parent - 1)
+
+-- a shorter test of a place outside domain 0: a live one with a parent is held against that alone, whose resource and greatest permissions are its own
+unfoldable pub quickKeeps : State → ℕ → Bool
+quickKeeps s p =
+    let cap = s .caps p in
+    if ltb p stride then true else
+    if eqb (cap .permissions) 0 then sameCap cap nothing else
+    if eqb (cap .parent) 0 then
+    (eqb (domainOf p) hypervisor || hasPd s (domainOf p)) && eqb (spaceOf p) object && eqb (cap .depth) 0 &&
+    (ltb (cap .resource) records && leb (cap .permissions) (greatestOf (kindOf s (cap .resource))))
+    else (eqb (domainOf p) hypervisor || hasPd s (domainOf p)) && parentFits s (spaceOf p) cap (cap .parent - 1) && leb (cap .depth) greatestDepth
+
+-- a domain is cut into as many parts as a word has values, so that a product that wraps takes whole domains off: these parts, and those of one place, rounded up
+abbrev pub whole : ℕ
+whole = 2 ^ 32
+
+abbrev pub part : ℕ
+part = (whole - 1) / stride + 1
+
+-- how many parts of its domain come before a place
+abbrev pub partsBefore : ℕ → ℕ
+partsBefore place = part * place % whole
+
+-- a space, and where it begins and ends in its domain, in such parts
+abbrev pub extentOf : ℕ → Extent
+extentOf space = record { space = space; from = part * start space; end = part * (start space + selectors space) }
+
+-- so many places are looked at together: each space has a multiple of them
+abbrev pub group : ℕ
+group = 16
+
+-- whether the words of so many places from one on are all 0
+abbrev pub blank : List ℕ → ℕ → ℕ → Bool
+blank table first count = allBelow (placeWords * count) (λ i. eqb (word table (placeWords * first + i)) 0)
+
+-- tables of the right lengths, a place of a space, and whether its domain is 0 or has a PD
+pub record Around (tables : Tables) (place space : ℕ) (home : Bool) : Type 0 where
+  pub places-long : length (tables .places) ≡ placeTableWords
+  pub objects-long : length (tables .objects) ≡ objectTableWords
+  pub is-place : place < places
+  pub in-space : space ≡ spaceOf place
+  pub at-home : home ≡ (eqb (domainOf place) hypervisor || hasPd (shown tables) (domainOf place))
+
+-- a stretch of domain 0: from one place up to another, resources rise by one from a start, and the permissions are the same
+pub record Stretch (begin from end permissions : ℕ) : Type 0 where
+  pub after-begin : begin ≤ from
+  pub in-order : from ≤ end
+  pub in-domain : end ≤ stride
+  pub as-boot : (p : ℕ) → from ≤ p → p < end → bootCap p ≡ parentless (p - begin) permissions
+
+-- a place table and records that keep their rules, where groups of places outside domain 0 have been passed over up to one, and all places before it pass the shorter test
+pub record Passed (tables : Tables) (pds first : ℕ) : Type 0 where
+  pub places-long : length (tables .places) ≡ placeTableWords
+  pub kept : Kept (tables .objects) pds
+  pub past-hypervisor : stride ≤ first
+  pub aligned : first % group ≡ 0
+  pub passed : allBelow first (quickKeeps (shown tables)) ≡ true

@@ -1,0 +1,63 @@
+-- The loop's invariant: the count is that of the PDs before the record, and each record passed keeps the rule. The measure is how many records are left.
+use Prim.Native.Nat.{_+_, _-_, _≤_}
+use mathlib.Core.Path.{_≡_}
+use mathlib.Core.Bool.{true}
+use native.Mathlib.Omega.{arith}
+use borrow.Author.Needs.{needs}
+use Rattle.words.specs.Sizes.{records}
+use Rattle.interface.specs.Basics.{allBelow}
+use Rattle.interface.specs.Damage.{pdsBelow, pd-rule}
+use Rattle.record_rules.specs.RecordKeeping.{recordsIn}
+use Rattle.record_rules.proofs.LoopLaws.{all-below-none, all-below-more, all-below-done, all-below-broken}
+use Rattle.record_rules.proofs.PdLaws.{pds-small, no-pds, pds-next}
+use Rattle.record_rules.proofs.pds_keep.Statement.{statement}
+use Rattle.record_rules.proofs.pds_keep.Tie as tie
+
+abbrev Inv-loop : tie.InvT-loop
+Inv-loop objects before₀ at₀ before at = (at ≤ records) × (before ≡ pdsBelow (recordsIn objects) at) × (allBelow at (pd-rule (recordsIn objects)) ≡ true)
+
+abbrev μ-loop : tie.MeasureT-loop
+μ-loop objects before₀ at₀ before at = records - at
+
+loop-holds : tie.Need-loop-holds Inv-loop μ-loop
+loop-holds c = search (no-pds, all-below-none, needs)
+
+pd-keeps-requires : tie.Need-pd-keeps-requires Inv-loop μ-loop
+pd-keeps-requires c κs = search needs
+
+returns : tie.Need-returns Inv-loop μ-loop
+returns c = search (all-below-broken, needs)
+
+pds-at-requires : tie.Need-pds-at-requires Inv-loop μ-loop
+pds-at-requires c κs = search needs
+
+add-before : tie.Need-add-before Inv-loop μ-loop
+add-before c = let turn = c .before .before .before .before in let at = turn .loop .at in let s = recordsIn (turn .before .before .args .objects .now) in omega (arith, pds-small s (at + 1), pds-next s at _ _ (turn .loop .inv .1) (c .pds-at .ensures))
+
+add-at : tie.Need-add-at Inv-loop μ-loop
+add-at c = search needs
+
+loop-less : tie.Need-loop-less Inv-loop μ-loop
+loop-less c = search needs
+
+loop-again : tie.Need-loop-again Inv-loop μ-loop
+loop-again c = search (pds-next, all-below-more, needs)
+
+returns-2 : tie.Need-returns-2 Inv-loop μ-loop
+returns-2 c = search (all-below-done, needs)
+
+pub pds-keep-spec : {M : Type 1} → statement M
+pds-keep-spec =
+    tie.close
+    (tie.spec
+    Inv-loop
+    μ-loop
+    loop-holds
+    pd-keeps-requires
+    returns
+    pds-at-requires
+    add-before
+    add-at
+    loop-less
+    loop-again
+    returns-2)

@@ -1,0 +1,84 @@
+-- A free record and a semaphore are tested at once; of any other the tests are those of the rules, and a domain has a PD where it is one of as many numbers as there are PDs.
+use mathlib.Core.Path.{sym, _∙_}
+use Rattle.record_rules.specs.RecordKeeping.{recordKeeps}
+use Rattle.record_rules.proofs.PdLaws.{home-counted}
+use Rattle.record_rules.proofs.RecordTests.{free-keeps}
+use borrow.Author.Needs.{needs}
+use Rattle.record_rules.proofs.record_keeps.Statement.{statement}
+use Rattle.record_rules.proofs.record_keeps.Tie as tie
+
+kind-of-requires : tie.Need-kind-of-requires
+kind-of-requires c κs = search needs
+
+is-clear-from-requires : tie.Need-is-clear-from-requires
+is-clear-from-requires c κs = search needs
+
+returns : tie.Need-returns
+returns c = free-keeps _ _ _ (c .before .before .kind-of .ensures) (c .before .if1 .taken) _ (c .is-clear-from .ensures)
+
+kind-of-requires-2 : tie.Need-kind-of-requires-2
+kind-of-requires-2 c κs = search needs
+
+semaphore-keeps-requires : tie.Need-semaphore-keeps-requires
+semaphore-keeps-requires c κs = search needs
+
+returns-2 : tie.Need-returns-2
+returns-2 c = search needs
+
+word-of-requires : tie.Need-word-of-requires
+word-of-requires c κs = search needs
+
+fixed-keeps-requires : tie.Need-fixed-keeps-requires
+fixed-keeps-requires c κs = search needs
+
+interrupt-keeps-requires : tie.Need-interrupt-keeps-requires
+interrupt-keeps-requires c κs = search needs
+
+unnamed-keeps-requires : tie.Need-unnamed-keeps-requires
+unnamed-keeps-requires c κs = search needs
+
+used-first-keeps-requires : tie.Need-used-first-keeps-requires
+used-first-keeps-requires c κs = search needs
+
+ec-keeps-requires : tie.Need-ec-keeps-requires
+ec-keeps-requires c κs = search (home-counted, needs)
+
+sc-keeps-requires : tie.Need-sc-keeps-requires
+sc-keeps-requires c κs = search needs
+
+pt-keeps-requires : tie.Need-pt-keeps-requires
+pt-keeps-requires c κs = search needs
+
+returns-3 : tie.Need-returns-3
+unfolding recordKeeps
+returns-3 c =
+    let first = c .before .before .before in
+    rw (
+      first .before .before .before .fixed-keeps .ensures,
+      first .before .before .interrupt-keeps .ensures,
+      first .before .unnamed-keeps .ensures,
+      first .used-first-keeps .ensures,
+      c .before .before .ec-keeps .ensures,
+      c .before .sc-keeps .ensures,
+      c .pt-keeps .ensures,
+    )
+
+pub record-keeps-spec : {M : Type 1} → statement M
+record-keeps-spec =
+    tie.close
+    (tie.spec
+    kind-of-requires
+    is-clear-from-requires
+    returns
+    kind-of-requires-2
+    semaphore-keeps-requires
+    returns-2
+    word-of-requires
+    fixed-keeps-requires
+    interrupt-keeps-requires
+    unnamed-keeps-requires
+    used-first-keeps-requires
+    ec-keeps-requires
+    sc-keeps-requires
+    pt-keeps-requires
+    returns-3)
