@@ -6,5 +6,8 @@ fn main() {
     let archives = root.join("target").join("staticlib");
     println!("cargo:rustc-link-search=native={}", archives.display());
     println!("cargo:rustc-link-lib=static=abi");
-    println!("cargo:rerun-if-changed={}", archives.join("libabi.a").display());
+    println!(
+        "cargo:rerun-if-changed={}",
+        archives.join("libabi.a").display()
+    );
 }

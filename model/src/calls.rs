@@ -80,35 +80,48 @@ pub fn hypercall(
     source: &[u32],
     target: &mut [u32],
 ) -> Reply {
-    serve(number, caller, arguments, places, objects, source, target).into()
+    match Tables::sound(places, objects) {
+        Some(tables) => serve(number, caller, arguments, tables, source, target),
+        None => Reply::refused(Status::Damaged),
+    }
 }
 
-fn serve(
+/// Runs a hypercall on tables that are known to be sound: what `hypercall` does after its damage test.
+pub fn serve(
     number: u32,
     caller: u32,
     arguments: Arguments,
-    places: &mut [u32],
-    objects: &mut [u32],
+    mut tables: Tables,
+    source: &[u32],
+    target: &mut [u32],
+) -> Reply {
+    dispatch(number, caller, arguments, &mut tables, source, target).into()
+}
+
+fn dispatch(
+    number: u32,
+    caller: u32,
+    arguments: Arguments,
+    tables: &mut Tables,
     source: &[u32],
     target: &mut [u32],
 ) -> Result<u32, Status> {
-    let mut tables = Tables::sound(places, objects).ok_or(Status::Damaged)?;
     let hypercall = Hypercall::from_number(number).ok_or(Status::BadHyp)?;
     let caller = Object::new(caller)
-        .and_then(|object| execution_context(&tables, object))
+        .and_then(|object| execution_context(tables, object))
         .ok_or(Status::BadCaller)?;
     let domain = caller.domain;
     let [a, b, c, d, e, f] = arguments;
     match hypercall {
-        Hypercall::Call => message::call(&mut tables, caller, a, source, target),
-        Hypercall::CreatePd => create_pd(&mut tables, domain, a, b, c),
-        Hypercall::CreateEc => create_ec(&mut tables, domain, a, b, c, d),
-        Hypercall::CreateSc => create_sc(&mut tables, domain, a, b, c, d),
-        Hypercall::CreatePt => create_pt(&mut tables, domain, a, b, c, [d, e, f]),
-        Hypercall::CreateSm => create_sm(&mut tables, domain, a, b, c),
-        Hypercall::Revoke => revoke(&mut tables, domain, a, b),
+        Hypercall::Call => message::call(tables, caller, a, source, target),
+        Hypercall::CreatePd => create_pd(tables, domain, a, b, c),
+        Hypercall::CreateEc => create_ec(tables, domain, a, b, c, d),
+        Hypercall::CreateSc => create_sc(tables, domain, a, b, c, d),
+        Hypercall::CreatePt => create_pt(tables, domain, a, b, c, [d, e, f]),
+        Hypercall::CreateSm => create_sm(tables, domain, a, b, c),
+        Hypercall::Revoke => revoke(tables, domain, a, b),
         Hypercall::Lookup => lookup(tables.places, domain, a),
-        Hypercall::SmCtrl => sm_ctrl(&mut tables, domain, a, b),
+        Hypercall::SmCtrl => sm_ctrl(tables, domain, a, b),
     }
 }
 

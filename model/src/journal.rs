@@ -4,7 +4,8 @@ use std::fmt::{self, Write};
 
 use crate::calls::{Arguments, Hypercall};
 use crate::layout::{BLOCK_WORDS, OBJECT_WORDS, PLACE_WORDS};
-use crate::status::Reply;
+use crate::status::{Reply, Status};
+use crate::tables::Tables;
 
 /// Both tables from boot on, and the hypercalls run on them.
 #[derive(Clone)]
@@ -35,6 +36,22 @@ impl Machine {
             &record.source,
             &mut record.target,
         )
+    }
+
+    /// Runs a record as `run` does on sound tables, which those from boot on are, without
+    /// the damage test.
+    pub fn serve(&mut self, record: &mut Record) -> Reply {
+        match Tables::sized(&mut self.places, &mut self.objects) {
+            Some(tables) => crate::serve(
+                record.hypercall.number(),
+                record.caller,
+                record.arguments,
+                tables,
+                &record.source,
+                &mut record.target,
+            ),
+            None => Reply::refused(Status::Damaged),
+        }
     }
 }
 
@@ -179,6 +196,11 @@ impl<'a> Replay<'a> {
 
     /// Reads and runs one record. Nothing is read after a stop.
     pub fn step(&mut self) -> Step {
+        self.step_by(Machine::run)
+    }
+
+    /// Reads one record and runs it in the given way.
+    fn step_by(&mut self, run: impl FnOnce(&mut Machine, &mut Record) -> Reply) -> Step {
         if self.rest.is_empty() {
             return Step::Ended(self.done);
         }
@@ -187,7 +209,7 @@ impl<'a> Replay<'a> {
                 self.rest = rest;
                 let index = self.done;
                 self.done += 1;
-                Step::Ran(index, self.machine.run(&mut self.record))
+                Step::Ran(index, run(&mut self.machine, &mut self.record))
             }
             Err(stop) => {
                 self.rest = &[];
@@ -197,15 +219,16 @@ impl<'a> Replay<'a> {
     }
 }
 
-/// Writes a replay's lines and, after each record's, what `more` adds.
+/// Writes a replay's lines, each record run in the given way, and after each record's what `more` adds.
 fn write_replay<W: Write>(
     bytes: &[u8],
     out: &mut W,
+    run: impl Fn(&mut Machine, &mut Record) -> Reply,
     mut more: impl FnMut(&Replay, &mut W) -> fmt::Result,
 ) -> fmt::Result {
     let mut replay = Replay::new(bytes);
     loop {
-        match replay.step() {
+        match replay.step_by(&run) {
             Step::Ran(index, Reply { status, answer }) => {
                 let kind = replay.record.hypercall.number();
                 writeln!(out, "{index} {kind} {} {answer}", status.number())?;
@@ -217,18 +240,27 @@ fn write_replay<W: Write>(
     }
 }
 
+fn lines_by(bytes: &[u8], run: impl Fn(&mut Machine, &mut Record) -> Reply) -> String {
+    let mut out = String::new();
+    write_replay(bytes, &mut out, run, |_, _| Ok(())).expect("a string takes every write");
+    out
+}
+
 /// The lines that the replay program prints for a journal.
 pub fn lines(bytes: &[u8]) -> String {
-    let mut out = String::new();
-    write_replay(bytes, &mut out, |_, _| Ok(())).expect("a string takes every write");
-    out
+    lines_by(bytes, Machine::run)
+}
+
+/// The same lines, made without a damage test before each call.
+pub fn lines_without_test(bytes: &[u8]) -> String {
+    lines_by(bytes, Machine::serve)
 }
 
 /// The lines with, after each record's, hashes of both tables and of the
 /// target block that a CALL left.
 pub fn trace(bytes: &[u8]) -> String {
     let mut out = String::new();
-    write_replay(bytes, &mut out, |replay, out| {
+    write_replay(bytes, &mut out, Machine::run, |replay, out| {
         let block: &[u32] = match replay.record.hypercall {
             Hypercall::Call => &replay.record.target,
             _ => &[],

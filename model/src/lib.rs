@@ -21,7 +21,7 @@ pub mod stored;
 pub mod tables;
 
 pub use boot::boot;
-pub use calls::{hypercall, Arguments, Hypercall};
+pub use calls::{hypercall, serve, Arguments, Hypercall};
 pub use census::census;
 pub use damage::{damage, is_sound, Damage, Location};
 pub use message::untyped;

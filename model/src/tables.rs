@@ -227,7 +227,7 @@ pub fn parent(places: &PlaceTable, place: Place) -> Option<Place> {
     Place::from_parent_word(places[place.index()][2])
 }
 
-/// Both tables, found sound when they were lent.
+/// Both tables, found sound when they were lent or known to be.
 pub struct Tables<'a> {
     pub places: &'a mut PlaceTable,
     pub objects: &'a mut ObjectTable,

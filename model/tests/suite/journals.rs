@@ -8,7 +8,7 @@ use std::fs;
 use std::path::PathBuf;
 
 use model::descriptor::{Descriptor, Range};
-use model::journal::{lines, Machine, Record, Replay, Step};
+use model::journal::{lines, lines_without_test, Machine, Record, Replay, Step};
 use model::stored::{Source, STORED};
 use model::tables::{Domain, Place, Selector, Space};
 use model::{Hypercall, Status};
@@ -43,6 +43,17 @@ fn the_stored_output_is_what_the_model_prints() {
         .collect();
     let stored = fs::read_to_string(replay_file("stdout")).expect("readable output");
     assert!(stored == printed, "crates/replay/stdout differs");
+}
+
+#[test]
+fn no_line_of_a_journal_depends_on_the_damage_test() {
+    for (name, bytes) in arguments() {
+        let bytes = bytes.unwrap_or_default();
+        assert!(
+            lines(&bytes) == lines_without_test(&bytes),
+            "{name} differs"
+        );
+    }
 }
 
 #[test]
