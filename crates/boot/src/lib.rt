@@ -32,7 +32,7 @@ pub const ROOT_SC: u32 = ROOT_PD + 2;
 // The root holds these three at the selectors from EXC on.
 const ROOT_OBJECTS: u32 = 3;
 
-const EXC: u32 = 32;
+pub const EXC: u32 = 32;
 
 // The root SC's priority and quantum.
 pub const ROOT_PRIORITY: u32 = 1;
@@ -43,9 +43,9 @@ pub const ROOT_QUANTUM: u32 = 10000;
 pub const NO_EC: u32 = sizes::RECORDS;
 
 // The lengths of the two tables.
-const PLACE_TABLE_WORDS: usize = sizes::PLACE_WORDS * sizes::PLACES as usize;
+pub const PLACE_TABLE_WORDS: usize = sizes::PLACE_WORDS * sizes::PLACES as usize;
 
-const OBJECT_TABLE_WORDS: usize = sizes::RECORD_WORDS * sizes::RECORDS as usize;
+pub const OBJECT_TABLE_WORDS: usize = sizes::RECORD_WORDS * sizes::RECORDS as usize;
 
 // The words of a record: its kind and four more.
 struct Words(u32, u32, u32, u32, u32);
