@@ -2,8 +2,17 @@
 use mathlib.Core.Path.{sym, _∙_}
 use Rattle.descriptor.proofs.DescriptorLaws.{good-proper}
 use borrow.Author.Needs.{needs}
-use Rattle.incident.proofs.say_reading.Statement.{statement}
-use Rattle.incident.proofs.say_reading.Tie as tie
+use Rattle.incident.proofs.say_found.Statement.{statement}
+use Rattle.incident.proofs.say_found.Tie as tie
+
+enum-known-reply : tie.Need-enum-known-reply
+enum-known-reply c = search needs
+
+say-done-requires : tie.Need-say-done-requires
+say-done-requires c κs = search needs
+
+returns : tie.Need-returns
+returns c = search needs
 
 from-word-requires : tie.Need-from-word-requires
 from-word-requires c κs = search needs
@@ -35,19 +44,22 @@ enum-known-found c = search needs
 say-range-requires : tie.Need-say-range-requires
 say-range-requires c κs = good-proper _ _ (sym (c .before .before .before .read .ensures) ∙ c .before .found .given .1)
 
-returns : tie.Need-returns
-returns c = search needs
-
 returns-2 : tie.Need-returns-2
 returns-2 c = search needs
 
 returns-3 : tie.Need-returns-3
 returns-3 c = search needs
 
-pub say-reading-spec : {M : Type 1} → statement M
-say-reading-spec =
+returns-4 : tie.Need-returns-4
+returns-4 c = search needs
+
+pub say-found-spec : {M : Type 1} → statement M
+say-found-spec =
     tie.close
     (tie.spec
+    enum-known-reply
+    say-done-requires
+    returns
     from-word-requires
     read-requires
     enum-told
@@ -58,6 +70,6 @@ say-reading-spec =
     say-requires-2
     enum-known-found
     say-range-requires
-    returns
     returns-2
-    returns-3)
+    returns-3
+    returns-4)
