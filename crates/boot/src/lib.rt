@@ -27,7 +27,7 @@ pub const ROOT_SC: u32 = ROOT_PD + 2;
 // The root holds these three at the selectors from EXC on.
 const ROOT_OBJECTS: u32 = 3;
 
-const EXC: u32 = 32;
+pub const EXC: u32 = 32;
 
 // The root SC's priority and quantum.
 pub const ROOT_PRIORITY: u32 = 1;

@@ -2,10 +2,12 @@
 // domain, and forgotten there. A lookup answered with the nearest range where it should have found nothing, the revoke that followed it missed the test domain, and the shutter
 // opened beside a trainee. Here the census names every place that has the ports, a lookup beside them finds nothing, one REVOKE empties all those places and spares what else
 // was lent, and the test domain has no port of the shutter's left to lend on.
-ghost use Prim.Native.Nat.{_+_, _%_, _≤_, _<_};
+ghost use Prim.Native.Nat.{_+_, _≤_, _<_};
 ghost use mathlib.Core.Path.{_≡_};
+ghost use mathlib.Core.Bool.{true};
+ghost use Rattle.words.specs.Sizes.{domains, io, object, spaces, selectors};
+ghost use Rattle.words.specs.Ranges.{aligned};
 ghost use Rattle.descriptor.specs.Descriptors.{Proper};
-ghost use Rattle.words.specs.Sizes.{io, object, spaces, selectors, places as allPlaces};
 use descriptor::Descriptor;
 use descriptor::FoundPlace;
 use descriptor::Place;
@@ -15,93 +17,36 @@ use descriptor::Reply;
 use words::ranges;
 use words::sizes;
 
-mod calls;
+// The domains by their numbers: that of a new one is the next.
+const HYPERVISOR: u32 = places::HYPERVISOR;
 
-// The root's selectors for what it makes: an EC to receive with and a portal to it, then for each domain the PD, an EC and a portal to that EC.
-const RECEIVER: u32 = 40;
+const ROOT: u32 = places::ROOT;
 
-const TO_RECEIVER: u32 = 41;
+const OPERATING: u32 = 2;
 
-const OPERATING_PD: u32 = 42;
+const SERVICE: u32 = 3;
 
-const OPERATING: u32 = 43;
+const TEST: u32 = 4;
 
-const TO_OPERATING: u32 = 44;
+const SPARE: u32 = 5;
 
-const SERVICE_PD: u32 = 45;
-
-const SERVICE: u32 = 46;
-
-const TO_SERVICE: u32 = 47;
-
-const TEST_PD: u32 = 48;
-
-const TEST: u32 = 49;
-
-const TO_TEST: u32 = 50;
-
-const SPARE_PD: u32 = 51;
-
-const SPARE: u32 = 52;
-
-const TO_SPARE: u32 = 53;
-
-// The ECs of the domains that make calls. Objects take the numbers from 31 on, in the order in which the root makes them.
-const OPERATING_EC: u32 = 34;
-
-const SERVICE_EC: u32 = 37;
-
-const TEST_EC: u32 = 40;
-
-// The selector where each domain has the portal to the next one.
+// The selector where each domain but the root has the portal to the next one.
 const ONWARD: u32 = 1;
 
-// The order of a range of one selector.
-const ONE: u32 = 0;
-
-// The shutter's ports: how many, the order of their range, and where each domain has the first of them.
+// The shutter's ports: how many, and the order of their range. The warning lamp's port is the next one after them in each domain.
 const SHUTTER_PORTS: u32 = 4;
 
 const SHUTTER_ORDER: u32 = 2;
 
-const SHUTTER_OF_ROOT: u32 = 8;
-
-const SHUTTER_OF_OPERATING: u32 = 20;
-
-const SHUTTER_OF_SERVICE: u32 = 32;
-
-const SHUTTER_OF_TEST: u32 = 40;
-
-const SHUTTER_OF_SPARE: u32 = 48;
-
-// The warning lamp's port is the next one after the shutter's in each domain.
-const LAMP_OF_ROOT: u32 = SHUTTER_OF_ROOT + SHUTTER_PORTS;
-
-const LAMP_OF_OPERATING: u32 = SHUTTER_OF_OPERATING + SHUTTER_PORTS;
-
-const LAMP_OF_SERVICE: u32 = SHUTTER_OF_SERVICE + SHUTTER_PORTS;
-
-const LAMP_OF_TEST: u32 = SHUTTER_OF_TEST + SHUTTER_PORTS;
-
-const LAMP_OF_SPARE: u32 = SHUTTER_OF_SPARE + SHUTTER_PORTS;
-
 // The page of the measured spectrum, at the same selector in each domain.
 const SPECTRUM: u32 = 5;
 
-// Selectors that hold nothing, right beside some that hold a port.
-const AFTER_LAMP_OF_ROOT: u32 = LAMP_OF_ROOT + 1;
+// The two tables, and the list of a census.
+type Places = [u32; sizes::PLACE_TABLE_WORDS];
 
-const BEFORE_SHUTTER_OF_TEST: u32 = SHUTTER_OF_TEST - 1;
+type Objects = [u32; sizes::OBJECT_TABLE_WORDS];
 
-const AFTER_LAMP_OF_TEST: u32 = LAMP_OF_TEST + 1;
-
-// The places of the first of the shutter's ports, of the hypervisor and of the root, which has them at the same selectors.
-const SHUTTER_PLACE_OF_HYPERVISOR: u32 = sizes::IO_START + SHUTTER_OF_ROOT;
-
-const SHUTTER_PLACE_OF_ROOT: u32 = sizes::STRIDE + SHUTTER_PLACE_OF_HYPERVISOR;
-
-// The status of a call that was done.
-const SUCCESS: u32 = 0;
+type List = [u32; sizes::PLACES as usize];
 
 // Writes a phrase.
 fn say(phrase: &[u8]) {
@@ -116,60 +61,43 @@ fn say_number(value: u32) {
 // Writes how many there are of a thing.
 fn say_counted(count: u32, thing: &[u8]) {
     say_number(count);
-    say(b" ");
     say(thing);
     if count != 1 {
         say(b"s");
     }
 }
 
-// Writes that a call was refused, and its status, and ends the line.
-fn say_refused(reply: Reply) {
+// Ends a line with whether a call was done, or else the status of its refusal.
+fn say_done(reply: Reply) {
+    if let Reply::Success(_) = reply {
+        say(b"done\n");
+        return;
+    }
     say(b"REFUSED with status ");
     say_number(reply.status());
     say(b"\n");
 }
 
-// Writes whether a call was done, and ends the line.
-fn say_done(reply: Reply) {
-    if reply.status() == SUCCESS {
-        say(b"done\n");
+// Ends a line with how many places a call answers with, and what they are.
+fn say_places(reply: Reply, what: &[u8]) {
+    if let Reply::Success(count) = reply {
+        say_counted(count, b" place");
+        say(what);
     } else {
-        say_refused(reply);
-    }
-}
-
-// Writes how many places a message filled, and ends the line.
-fn say_filled(reply: Reply) {
-    if reply.status() == SUCCESS {
-        say_counted(reply.answer(), b"place");
-        say(b" filled\n");
-    } else {
-        say_refused(reply);
-    }
-}
-
-// Writes to how many places a census says that a port is lent, and ends the line.
-fn say_lent(reply: Reply) {
-    if reply.status() == SUCCESS {
-        say(b"lent to ");
-        say_counted(reply.answer(), b"place");
-        say(b"\n");
-    } else {
-        say_refused(reply);
+        say_done(reply);
     }
 }
 
 // Writes how many resources of a space there are.
 fn say_resources(space: u32, count: u32) {
     match space {
-        sizes::MEMORY => say_counted(count, b"page"),
-        sizes::IO => say_counted(count, b"port"),
-        _ => say_counted(count, b"object"),
+        sizes::MEMORY => say_counted(count, b" page"),
+        sizes::IO => say_counted(count, b" port"),
+        _ => say_counted(count, b" object"),
     }
 }
 
-// Writes a range, and ends the line.
+// Ends a line with a range.
 fn say_range(range: Range)
     requires { ⌜ Proper range ⌝ }
 {
@@ -179,8 +107,12 @@ fn say_range(range: Range)
     say(b" on\n");
 }
 
-// Writes what a descriptor says, and ends the line.
-fn say_reading(word: u32) {
+// Ends a line with what a LOOKUP found.
+fn say_found(reply: Reply) {
+    let Reply::Success(word) = reply else {
+        say_done(reply);
+        return;
+    };
     match Descriptor::from_word(word).read() {
         Reading::Null => say(b"nothing\n"),
         Reading::Malformed => say(b"NO RANGE\n"),
@@ -188,43 +120,26 @@ fn say_reading(word: u32) {
     }
 }
 
-// Writes what a LOOKUP found, and ends the line.
-fn say_found(reply: Reply) {
-    if reply.status() == SUCCESS {
-        say_reading(reply.answer());
-    } else {
-        say_refused(reply);
-    }
-}
-
-// Writes a domain's number and what it is for.
-fn say_domain(domain: u32) {
-    say(b"domain ");
-    say_number(domain);
+// Writes what a domain is for.
+fn say_name(domain: u32) {
     match domain {
-        0 => say(b" (hypervisor)"),
-        1 => say(b" (root)"),
-        2 => say(b" (operating)"),
-        3 => say(b" (service)"),
-        4 => say(b" (test)"),
-        5 => say(b" (spare)"),
-        _ => say(b" (UNKNOWN)"),
-    }
-}
-
-// Writes the name of a space.
-fn say_space(space: u32) {
-    match space {
-        sizes::MEMORY => say(b"memory"),
-        sizes::IO => say(b"I/O"),
-        _ => say(b"object"),
+        HYPERVISOR => say(b" (hypervisor), "),
+        ROOT => say(b" (root), "),
+        OPERATING => say(b" (operating), "),
+        SERVICE => say(b" (service), "),
+        TEST => say(b" (test), "),
+        SPARE => say(b" (spare), "),
+        _ => say(b" (UNKNOWN), "),
     }
 }
 
 // Writes a selector of a space.
 fn say_selector(space: u32, selector: u32) {
-    say_space(space);
-    say(b" selector ");
+    match space {
+        sizes::MEMORY => say(b"memory selector "),
+        sizes::IO => say(b"I/O selector "),
+        _ => say(b"object selector "),
+    }
     say_number(selector);
 }
 
@@ -234,208 +149,115 @@ fn say_place(word: u32) {
         say(b"NO PLACE");
         return;
     };
-    say_domain(place.domain());
-    say(b", ");
+    say(b"domain ");
+    say_number(place.domain());
+    say_name(place.domain());
     say_selector(place.space(), place.selector().number());
 }
 
+// The EC of a domain. Objects take the numbers after that of the root's SC, in the order in which the root makes them.
+fn ec(domain: u32) -> u32 {
+    match domain {
+        OPERATING => boot::ROOT_SC + 4,
+        SERVICE => boot::ROOT_SC + 7,
+        TEST => boot::ROOT_SC + 10,
+        _ => boot::ROOT_EC,
+    }
+}
+
+// The root's selector of the portal to a domain's EC; those of its EC and its PD stand right before it. To the root itself it has one to receive from the hypervisor.
+fn portal_to(domain: u32) -> u32
+    ensures { λ r. ⌜ (2 ≤ r) × (r < selectors object) ⌝ }
+{
+    match domain {
+        ROOT => 41,
+        OPERATING => 44,
+        SERVICE => 47,
+        TEST => 50,
+        _ => 53,
+    }
+}
+
+// The selector where a domain has the portal to the next one.
+fn onward(domain: u32) -> u32 {
+    if domain == ROOT {
+        return portal_to(OPERATING);
+    }
+    ONWARD
+}
+
+// The selector where a domain has the first of the shutter's ports: the root has them where the hypervisor has.
+fn ports(domain: u32) -> u32
+    ensures { λ r. ⌜ (aligned 2 r ≡ true) × (8 ≤ r) × (r + 8 ≤ selectors io) ⌝ }
+{
+    match domain {
+        OPERATING => 20,
+        SERVICE => 32,
+        TEST => 40,
+        SPARE => 48,
+        _ => 8,
+    }
+}
+
+// The selector where a domain has the lamp's port.
+fn lamp(domain: u32) -> u32
+    ensures { λ r. ⌜ (1 ≤ r) × (r + 4 ≤ selectors io) ⌝ }
+{
+    ports(domain) + SHUTTER_PORTS
+}
+
 // The descriptor of the shutter's ports, where a domain has them.
-fn shutter(first: u32) -> u32
-    requires { ⌜ (first % 4 ≡ 0) × (first < selectors io) ⌝ }
-{
-    calls::range(sizes::IO, first, SHUTTER_ORDER)
+fn shutter(domain: u32) -> u32 {
+    requests::range(sizes::IO, ports(domain), SHUTTER_ORDER)
 }
 
-// The descriptor of one selector.
-fn one(space: u32, selector: u32) -> u32
-    requires { ⌜ (space < spaces) × (selector < selectors space) ⌝ }
-{
-    calls::range(space, selector, ONE)
-}
-
-// Starts the machine, and makes an EC through which the root can receive from the hypervisor.
-fn start(places: &mut [u32], objects: &mut [u32]) {
-    say(b"The machine boots: ");
-    say_done(kernel::boot(places, objects));
-    say(b"The root makes an EC to receive with: ");
-    say_done(calls::create_own_ec(RECEIVER, places, objects));
-    say(b"The root makes a portal to it: ");
-    say_done(calls::create_pt(TO_RECEIVER, RECEIVER, places, objects));
-}
-
-// Makes a domain, an EC in it and a portal to that EC.
-fn make_domain(pd: u32, ec: u32, portal: u32, places: &mut [u32], objects: &mut [u32]) {
-    say_done(calls::create_pd(pd, places, objects));
+// Makes a domain: its PD, an EC in it and a portal to that EC.
+fn make_domain(domain: u32, places: &mut Places, objects: &mut Objects) {
+    let portal = portal_to(domain);
+    say_done(requests::create_pd(portal - 2, places, objects));
     say(b"  an EC in it: ");
-    say_done(calls::create_ec(ec, pd, places, objects));
+    say_done(requests::create_ec(portal - 1, portal - 2, places, objects));
     say(b"  a portal to that: ");
-    say_done(calls::create_pt(portal, ec, places, objects));
+    say_done(requests::create_pt(portal, portal - 1, places, objects));
 }
 
-// Makes the four domains.
-fn make_domains(places: &mut [u32], objects: &mut [u32]) {
-    say(b"The root makes the operating domain: ");
-    make_domain(OPERATING_PD, OPERATING, TO_OPERATING, places, objects);
-    say(b"The root makes the service domain: ");
-    make_domain(SERVICE_PD, SERVICE, TO_SERVICE, places, objects);
-    say(b"The root makes the test domain: ");
-    make_domain(TEST_PD, TEST, TO_TEST, places, objects);
-    say(b"The root makes the spare domain: ");
-    make_domain(SPARE_PD, SPARE, TO_SPARE, places, objects);
-}
-
-// Lends the domain behind a portal the portal to the next domain.
-fn connect(portal: u32, next: u32, places: &mut [u32], objects: &mut [u32])
-    requires { ⌜ next < selectors object ⌝ }
-{
-    say_filled(calls::lend(
-        calls::ROOT_EC,
-        portal,
-        one(sizes::OBJECT, next),
-        one(sizes::OBJECT, ONWARD),
-        places,
-        objects,
-    ));
-}
-
-// Lets each domain call the next one.
-fn connect_domains(places: &mut [u32], objects: &mut [u32]) {
-    say(b"The operating domain gets a portal to the service domain: ");
-    connect(TO_OPERATING, TO_SERVICE, places, objects);
-    say(b"The service domain gets a portal to the test domain: ");
-    connect(TO_SERVICE, TO_TEST, places, objects);
-    say(b"The test domain gets a portal to the spare domain: ");
-    connect(TO_TEST, TO_SPARE, places, objects);
-}
-
-// Gives the root the shutter's ports, the lamp's port and the page of the spectrum.
-fn take_resources(places: &mut [u32], objects: &mut [u32]) {
-    say(b"The root takes the shutter's ports: ");
-    let ports = shutter(SHUTTER_OF_ROOT);
-    say_filled(calls::take(TO_RECEIVER, ports, places, objects));
-    say(b"The root takes the lamp's port: ");
-    let lamp = one(sizes::IO, LAMP_OF_ROOT);
-    say_filled(calls::take(TO_RECEIVER, lamp, places, objects));
-    say(b"The root takes the spectrum's page: ");
-    let spectrum = one(sizes::MEMORY, SPECTRUM);
-    say_filled(calls::take(TO_RECEIVER, spectrum, places, objects));
-}
-
-// Lends the shutter's ports from the root to the operating domain.
-fn lend_shutter_to_operating(places: &mut [u32], objects: &mut [u32]) -> Reply {
-    calls::lend(
-        calls::ROOT_EC,
-        TO_OPERATING,
-        shutter(SHUTTER_OF_ROOT),
-        shutter(SHUTTER_OF_OPERATING),
-        places,
-        objects,
-    )
-}
-
-// Lends the shutter's ports from the operating domain on to the service domain.
-fn lend_shutter_to_service(places: &mut [u32], objects: &mut [u32]) -> Reply {
-    calls::lend(
-        OPERATING_EC,
-        ONWARD,
-        shutter(SHUTTER_OF_OPERATING),
-        shutter(SHUTTER_OF_SERVICE),
-        places,
-        objects,
-    )
-}
-
-// Lends the shutter's ports from the service domain on to the test domain.
-fn lend_shutter_to_test(places: &mut [u32], objects: &mut [u32]) -> Reply {
-    calls::lend(
-        SERVICE_EC,
-        ONWARD,
-        shutter(SHUTTER_OF_SERVICE),
-        shutter(SHUTTER_OF_TEST),
-        places,
-        objects,
-    )
-}
-
-// Lends the shutter's ports from the test domain on to the spare domain.
-fn lend_shutter_to_spare(places: &mut [u32], objects: &mut [u32]) -> Reply {
-    calls::lend(
-        TEST_EC,
-        ONWARD,
-        shutter(SHUTTER_OF_TEST),
-        shutter(SHUTTER_OF_SPARE),
-        places,
-        objects,
-    )
-}
-
-// Lends the lamp's port from one domain to the next.
-fn pass_lamp(caller: u32, portal: u32, from: u32, to: u32, places: &mut [u32], objects: &mut [u32])
-    requires { ⌜ (from < selectors io) × (to < selectors io) ⌝ }
-{
-    say_filled(calls::lend(
-        caller,
-        portal,
-        one(sizes::IO, from),
-        one(sizes::IO, to),
-        places,
-        objects,
-    ));
-}
-
-// Lends the shutter's ports down to the test domain.
-fn lend_shutter(places: &mut [u32], objects: &mut [u32]) {
-    say(b"The root lends the shutter's ports to the operating domain: ");
-    say_filled(lend_shutter_to_operating(places, objects));
-    say(b"The operating domain lends them on to the service domain: ");
-    say_filled(lend_shutter_to_service(places, objects));
-    say(b"The service domain lends them on to the test domain: ");
-    say_filled(lend_shutter_to_test(places, objects));
-}
-
-// Lends the lamp's port, which has nothing to do with the shutter, to the same domains.
-fn lend_lamp(places: &mut [u32], objects: &mut [u32]) {
-    say(b"The root lends the lamp's port to the operating domain: ");
-    pass_lamp(
-        calls::ROOT_EC,
-        TO_OPERATING,
-        LAMP_OF_ROOT,
-        LAMP_OF_OPERATING,
+// Lends a domain the portal to the next one.
+fn connect(domain: u32, next: u32, places: &mut Places, objects: &mut Objects) {
+    let item = requests::single(sizes::OBJECT, portal_to(next));
+    let window = requests::single(sizes::OBJECT, ONWARD);
+    let reply = requests::lend(
+        boot::ROOT_EC,
+        portal_to(domain),
+        item,
+        window,
         places,
         objects,
     );
-    say(b"The operating domain lends it on to the service domain: ");
-    pass_lamp(
-        OPERATING_EC,
-        ONWARD,
-        LAMP_OF_OPERATING,
-        LAMP_OF_SERVICE,
-        places,
-        objects,
-    );
-    say(b"The service domain lends it on to the test domain: ");
-    pass_lamp(
-        SERVICE_EC,
-        ONWARD,
-        LAMP_OF_SERVICE,
-        LAMP_OF_TEST,
-        places,
-        objects,
-    );
+    say_places(reply, b" filled\n");
 }
 
-// Lends the page of the spectrum to the operating domain.
-fn lend_spectrum(places: &mut [u32], objects: &mut [u32]) {
-    say(b"The root lends the spectrum's page to the operating domain: ");
-    let spectrum = one(sizes::MEMORY, SPECTRUM);
-    say_filled(calls::lend(
-        calls::ROOT_EC,
-        TO_OPERATING,
-        spectrum,
-        spectrum,
-        places,
-        objects,
-    ));
+// Gives the root a range of the hypervisor's.
+fn take(range: u32, places: &mut Places, objects: &mut Objects) {
+    let reply = requests::take(portal_to(ROOT), range, places, objects);
+    say_places(reply, b" filled\n");
+}
+
+// Lends a range of a domain's to the next one.
+fn lend(domain: u32, item: u32, window: u32, places: &mut Places, objects: &mut Objects) {
+    let reply = requests::lend(ec(domain), onward(domain), item, window, places, objects);
+    say_places(reply, b" filled\n");
+}
+
+// Lends the shutter's ports of a domain to the next one.
+fn lend_shutter(domain: u32, next: u32, places: &mut Places, objects: &mut Objects) {
+    lend(domain, shutter(domain), shutter(next), places, objects);
+}
+
+// Lends the lamp's port of a domain to the next one.
+fn lend_lamp(domain: u32, next: u32, places: &mut Places, objects: &mut Objects) {
+    let item = requests::single(sizes::IO, lamp(domain));
+    let window = requests::single(sizes::IO, lamp(next));
+    lend(domain, item, window, places, objects);
 }
 
 // Names the first places of a list, one a line.
@@ -453,189 +275,172 @@ fn name_places(list: &[u32], count: u32) {
 }
 
 // Takes the census of a place, and names each place that has its capability from there.
-fn name_heirs(place: u32, places: &[u32], objects: &[u32], list: &mut [u32]) {
+fn name_heirs(place: u32, places: &Places, objects: &Objects, list: &mut List) {
     say_place(place);
-    say(b": ");
+    say(b": lent to ");
     let reply = kernel::census(place, places, objects, list);
-    say_lent(reply);
+    say_places(reply, b"\n");
     name_places(list, reply.answer());
 }
 
-// Takes the census of each of the shutter's ports, from the place of the first one on.
-fn name_shutter_heirs(first: u32, places: &[u32], objects: &[u32], list: &mut [u32])
-    requires { ⌜ first < allPlaces ⌝ }
+// Takes the census of each of the shutter's ports of a domain.
+fn name_shutter_heirs(domain: u32, places: &Places, objects: &Objects, list: &mut List)
+    requires { ⌜ domain < domains ⌝ }
 {
-    let mut i: u32 = 0;
-    while i < SHUTTER_PORTS {
-        name_heirs(first + i, places, objects, list);
-        i += 1;
-    }
+    let first = domain * sizes::STRIDE + sizes::IO_START + ports(domain);
+    name_heirs(first, places, objects, list);
+    name_heirs(first + 1, places, objects, list);
+    name_heirs(first + 2, places, objects, list);
+    name_heirs(first + 3, places, objects, list);
 }
 
 // Says what a domain finds at a selector, and answers with the reply.
-fn look(caller: u32, space: u32, selector: u32, places: &mut [u32], objects: &mut [u32]) -> Reply
+fn look(domain: u32, space: u32, selector: u32, places: &mut Places, objects: &mut Objects) -> Reply
     requires { ⌜ (space < spaces) × (selector < selectors space) ⌝ }
 {
     say_selector(space, selector);
     say(b": ");
-    let reply = calls::look_up(caller, one(space, selector), places, objects);
+    let range = requests::single(space, selector);
+    let reply = requests::look_up(ec(domain), range, places, objects);
     say_found(reply);
     reply
 }
 
 // Says what a domain finds at each selector where it had the shutter's ports.
-fn look_for_shutter(caller: u32, first: u32, places: &mut [u32], objects: &mut [u32])
-    requires { ⌜ first + 4 ≤ selectors io ⌝ }
-{
-    let mut i: u32 = 0;
-    while i < SHUTTER_PORTS {
-        say(b"  ");
-        look(caller, sizes::IO, first + i, places, objects);
-        i += 1;
-    }
+fn look_for_shutter(domain: u32, places: &mut Places, objects: &mut Objects) {
+    let first = ports(domain);
+    say(b"  ");
+    look(domain, sizes::IO, first, places, objects);
+    say(b"  ");
+    look(domain, sizes::IO, first + 1, places, objects);
+    say(b"  ");
+    look(domain, sizes::IO, first + 2, places, objects);
+    say(b"  ");
+    look(domain, sizes::IO, first + 3, places, objects);
 }
 
-// The lookups of the test domain where it has the ports, and beside them, where it has nothing.
-fn look_in_test(places: &mut [u32], objects: &mut [u32]) {
-    say(b"The test domain looks at the shutter's ports, ");
-    look(TEST_EC, sizes::IO, SHUTTER_OF_TEST, places, objects);
-    say(b"The test domain looks right before them, ");
-    look(TEST_EC, sizes::IO, BEFORE_SHUTTER_OF_TEST, places, objects);
-    say(b"The test domain looks right after the lamp's port, ");
-    look(TEST_EC, sizes::IO, AFTER_LAMP_OF_TEST, places, objects);
+// The machine, an EC through which the root can receive from the hypervisor, and the four domains, each of which can call the next one.
+fn set_up(places: &mut Places, objects: &mut Objects) {
+    say(b"THE MACHINE AND ITS DOMAINS\nThe machine boots: ");
+    say_done(kernel::boot(places, objects));
+    say(b"The root makes an EC to receive with: ");
+    let portal = portal_to(ROOT);
+    say_done(requests::create_own_ec(portal - 1, places, objects));
+    say(b"The root makes a portal to it: ");
+    say_done(requests::create_pt(portal, portal - 1, places, objects));
+    say(b"The root makes the operating domain: ");
+    make_domain(OPERATING, places, objects);
+    say(b"The root makes the service domain: ");
+    make_domain(SERVICE, places, objects);
+    say(b"The root makes the test domain: ");
+    make_domain(TEST, places, objects);
+    say(b"The root makes the spare domain: ");
+    make_domain(SPARE, places, objects);
+    say(b"The operating domain gets a portal to the service domain: ");
+    connect(OPERATING, SERVICE, places, objects);
+    say(b"The service domain gets a portal to the test domain: ");
+    connect(SERVICE, TEST, places, objects);
+    say(b"The test domain gets a portal to the spare domain: ");
+    connect(TEST, SPARE, places, objects);
 }
 
-// The mistake of the incident: a lookup where the root has nothing, the lamp's port being the nearest, and a revoke of what it answers.
-fn revoke_beside(places: &mut [u32], objects: &mut [u32]) {
-    say(b"The root looks right after the lamp's port, ");
-    let reply = look(
-        calls::ROOT_EC,
-        sizes::IO,
-        AFTER_LAMP_OF_ROOT,
-        places,
-        objects,
-    );
-    say(b"The root revokes what that answer names: ");
-    say_done(calls::revoke(reply.answer(), places, objects));
+// What the root takes, and what is lent of it: the shutter's ports, the lamp's port, which has nothing to do with them, and the page of the spectrum.
+fn lending(places: &mut Places, objects: &mut Objects) {
+    say(b"\nWHAT IS LENT\nThe root takes the shutter's ports: ");
+    take(shutter(ROOT), places, objects);
+    say(b"The root takes the lamp's port: ");
+    take(requests::single(sizes::IO, lamp(ROOT)), places, objects);
+    say(b"The root takes the spectrum's page: ");
+    let spectrum = requests::single(sizes::MEMORY, SPECTRUM);
+    take(spectrum, places, objects);
+    say(b"The root lends the shutter's ports to the operating domain: ");
+    lend_shutter(ROOT, OPERATING, places, objects);
+    say(b"The operating domain lends them on to the service domain: ");
+    lend_shutter(OPERATING, SERVICE, places, objects);
+    say(b"The service domain lends them on to the test domain: ");
+    lend_shutter(SERVICE, TEST, places, objects);
+    say(b"The root lends the lamp's port to the operating domain: ");
+    lend_lamp(ROOT, OPERATING, places, objects);
+    say(b"The operating domain lends it on to the service domain: ");
+    lend_lamp(OPERATING, SERVICE, places, objects);
+    say(b"The service domain lends it on to the test domain: ");
+    lend_lamp(SERVICE, TEST, places, objects);
+    say(b"The root lends the spectrum's page to the operating domain: ");
+    lend(ROOT, spectrum, spectrum, places, objects);
 }
 
-// The right way: a lookup of the shutter's ports, and a revoke of their range.
-fn revoke_shutter(places: &mut [u32], objects: &mut [u32]) {
-    say(b"The root looks at the shutter's ports, ");
-    look(calls::ROOT_EC, sizes::IO, SHUTTER_OF_ROOT, places, objects);
-    say(b"The root revokes the shutter's ports and keeps its own: ");
-    say_done(calls::revoke(shutter(SHUTTER_OF_ROOT), places, objects));
-}
-
-// What the three domains find where they had the shutter's ports.
-fn look_for_remains(places: &mut [u32], objects: &mut [u32]) {
-    say(b"The operating domain looks for the shutter's ports\n");
-    look_for_shutter(OPERATING_EC, SHUTTER_OF_OPERATING, places, objects);
-    say(b"The service domain looks for the shutter's ports\n");
-    look_for_shutter(SERVICE_EC, SHUTTER_OF_SERVICE, places, objects);
-    say(b"The test domain looks for the shutter's ports\n");
-    look_for_shutter(TEST_EC, SHUTTER_OF_TEST, places, objects);
-}
-
-// What the three domains find where they have the lamp's port.
-fn look_for_lamp(places: &mut [u32], objects: &mut [u32]) {
-    say(b"The operating domain looks at the lamp's port, ");
-    look(OPERATING_EC, sizes::IO, LAMP_OF_OPERATING, places, objects);
-    say(b"The service domain looks at the lamp's port, ");
-    look(SERVICE_EC, sizes::IO, LAMP_OF_SERVICE, places, objects);
-    say(b"The test domain looks at the lamp's port, ");
-    look(TEST_EC, sizes::IO, LAMP_OF_TEST, places, objects);
-}
-
-// What must still be there: the root's own ports, and what was lent beside them.
-fn look_for_others(places: &mut [u32], objects: &mut [u32]) {
-    say(b"The root looks at the shutter's ports, ");
-    look(calls::ROOT_EC, sizes::IO, SHUTTER_OF_ROOT, places, objects);
-    look_for_lamp(places, objects);
-    say(b"The operating domain looks at the spectrum's page, ");
-    look(OPERATING_EC, sizes::MEMORY, SPECTRUM, places, objects);
-}
-
-// Every domain that had the shutter's ports tries to lend them on; the lamp's port still goes through the portal of the last.
-fn lend_again(places: &mut [u32], objects: &mut [u32]) {
-    say(b"The operating domain lends the shutter's ports on again: ");
-    say_filled(lend_shutter_to_service(places, objects));
-    say(b"The service domain lends them on again: ");
-    say_filled(lend_shutter_to_test(places, objects));
-    say(b"The test domain lends them on to the spare domain: ");
-    say_filled(lend_shutter_to_spare(places, objects));
-    say(b"The test domain lends the lamp's port on to the spare domain: ");
-    pass_lamp(
-        TEST_EC,
-        ONWARD,
-        LAMP_OF_TEST,
-        LAMP_OF_SPARE,
-        places,
-        objects,
-    );
-}
-
-// The machine and its domains.
-fn set_up(places: &mut [u32], objects: &mut [u32]) {
-    say(b"THE MACHINE AND ITS DOMAINS\n");
-    start(places, objects);
-    make_domains(places, objects);
-    connect_domains(places, objects);
-}
-
-// What the root takes, and what is lent of it.
-fn lending(places: &mut [u32], objects: &mut [u32]) {
-    say(b"\nWHAT IS LENT\n");
-    take_resources(places, objects);
-    lend_shutter(places, objects);
-    lend_lamp(places, objects);
-    lend_spectrum(places, objects);
-}
-
-// Who has the shutter's ports, and what the mistake of the incident does here.
-fn mistake(places: &mut [u32], objects: &mut [u32], list: &mut [u32]) {
+// Who has the shutter's ports before and after the mistake of the incident: a lookup where the root has nothing, right after the lamp's port, and a revoke of what it answers.
+fn mistake(places: &mut Places, objects: &mut Objects, list: &mut List) {
     say(b"\nWHO HAS THE SHUTTER'S PORTS\n");
-    name_shutter_heirs(SHUTTER_PLACE_OF_ROOT, places, objects, list);
+    name_shutter_heirs(ROOT, places, objects, list);
     say(b"\nA LOOKUP BESIDE THEM, AND A REVOKE OF ITS ANSWER\n");
-    look_in_test(places, objects);
-    revoke_beside(places, objects);
-    name_shutter_heirs(SHUTTER_PLACE_OF_ROOT, places, objects, list);
+    say(b"The test domain looks at the shutter's ports, ");
+    look(TEST, sizes::IO, ports(TEST), places, objects);
+    say(b"The test domain looks right before them, ");
+    look(TEST, sizes::IO, ports(TEST) - 1, places, objects);
+    say(b"The test domain looks right after the lamp's port, ");
+    look(TEST, sizes::IO, lamp(TEST) + 1, places, objects);
+    say(b"The root looks right after the lamp's port, ");
+    let reply = look(ROOT, sizes::IO, lamp(ROOT) + 1, places, objects);
+    say(b"The root revokes what that answer names: ");
+    say_done(requests::revoke(reply.answer(), places, objects));
+    name_shutter_heirs(ROOT, places, objects, list);
 }
 
-// The revoke, and what is left after it.
-fn recovery(places: &mut [u32], objects: &mut [u32], list: &mut [u32]) {
-    say(b"\nTHE REVOKE OF THE PORTS\n");
-    revoke_shutter(places, objects);
+// The right way: a lookup of the shutter's ports, and a revoke of their range. The domains then find nothing where they had them.
+fn recovery(places: &mut Places, objects: &mut Objects, list: &mut List) {
+    say(b"\nTHE REVOKE OF THE PORTS\nThe root looks at the shutter's ports, ");
+    look(ROOT, sizes::IO, ports(ROOT), places, objects);
+    say(b"The root revokes the shutter's ports and keeps its own: ");
+    say_done(requests::revoke(shutter(ROOT), places, objects));
     say(b"\nWHAT IS LEFT\n");
-    name_shutter_heirs(SHUTTER_PLACE_OF_ROOT, places, objects, list);
-    look_for_remains(places, objects);
-    look_for_others(places, objects);
+    name_shutter_heirs(ROOT, places, objects, list);
+    say(b"The operating domain looks for the shutter's ports\n");
+    look_for_shutter(OPERATING, places, objects);
+    say(b"The service domain looks for the shutter's ports\n");
+    look_for_shutter(SERVICE, places, objects);
+    say(b"The test domain looks for the shutter's ports\n");
+    look_for_shutter(TEST, places, objects);
 }
 
-// What the domains can still lend on, and who has the shutter's ports in the end: the census of the hypervisor's places names all.
-fn aftermath(places: &mut [u32], objects: &mut [u32], list: &mut [u32]) {
+// What is still there: the root's own ports, and what was lent beside them.
+fn others(places: &mut Places, objects: &mut Objects) {
+    say(b"The root looks at the shutter's ports, ");
+    look(ROOT, sizes::IO, ports(ROOT), places, objects);
+    say(b"The operating domain looks at the lamp's port, ");
+    look(OPERATING, sizes::IO, lamp(OPERATING), places, objects);
+    say(b"The service domain looks at the lamp's port, ");
+    look(SERVICE, sizes::IO, lamp(SERVICE), places, objects);
+    say(b"The test domain looks at the lamp's port, ");
+    look(TEST, sizes::IO, lamp(TEST), places, objects);
+    say(b"The operating domain looks at the spectrum's page, ");
+    look(OPERATING, sizes::MEMORY, SPECTRUM, places, objects);
+}
+
+// Every domain that had the shutter's ports tries to lend them on, and the last one the lamp's port. The census of the hypervisor's places names all who have the ports then.
+fn aftermath(places: &mut Places, objects: &mut Objects, list: &mut List) {
     say(b"\nLENDING ON WHAT IS LEFT\n");
-    lend_again(places, objects);
+    say(b"The operating domain lends the shutter's ports on again: ");
+    lend_shutter(OPERATING, SERVICE, places, objects);
+    say(b"The service domain lends them on again: ");
+    lend_shutter(SERVICE, TEST, places, objects);
+    say(b"The test domain lends them on to the spare domain: ");
+    lend_shutter(TEST, SPARE, places, objects);
+    say(b"The test domain lends the lamp's port on to the spare domain: ");
+    lend_lamp(TEST, SPARE, places, objects);
     say(b"\nWHO HAS THE SHUTTER'S PORTS NOW\n");
-    name_shutter_heirs(SHUTTER_PLACE_OF_HYPERVISOR, places, objects, list);
+    name_shutter_heirs(HYPERVISOR, places, objects, list);
 }
-
-// The story, from boot to the end.
-fn story(places: &mut [u32], objects: &mut [u32], list: &mut [u32]) {
-    set_up(places, objects);
-    lending(places, objects);
-    mistake(places, objects, list);
-    recovery(places, objects, list);
-    aftermath(places, objects, list);
-}
-
-// A census lists no more places than there are.
-const LIST_WORDS: usize = sizes::PLACES as usize;
 
 // Tells the story on tables that start as zeros.
 fn main() {
     let mut places = [0u32; sizes::PLACE_TABLE_WORDS];
     let mut objects = [0u32; sizes::OBJECT_TABLE_WORDS];
-    let mut list = [0u32; LIST_WORDS];
-    story(&mut places, &mut objects, &mut list);
+    let mut list = [0u32; sizes::PLACES as usize];
+    set_up(&mut places, &mut objects);
+    lending(&mut places, &mut objects);
+    mistake(&mut places, &mut objects, &mut list);
+    recovery(&mut places, &mut objects, &mut list);
+    others(&mut places, &mut objects);
+    aftermath(&mut places, &mut objects, &mut list);
 }

@@ -1,2 +1,0 @@
--- What the contracts of the story's hypercalls cite.
-pub mod Story

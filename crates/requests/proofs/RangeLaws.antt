@@ -1,0 +1,49 @@
+-- The ranges that are asked for lie in their spaces, whatever the sizes of those.
+use Prim.Native.Nat.{ℕ, _+_, _%_, _^_, _≤_, _<_}
+use mathlib.Core.Path.{_≡_, sym, _∙_}
+use mathlib.Core.Bool.{true}
+use native.Mathlib.Omega.{arith}
+use borrow.Author.Tests.{eq-eqb}
+use Rattle.words.specs.Sizes.{greatestOrder, selectors, spaces}
+use Rattle.words.specs.Ranges.{aligned}
+use Rattle.words.proofs.RangeLaws.{aligned-divides, multiples-apart, size-divides}
+use Rattle.descriptor.specs.declared.Selector.{Selector}
+use Rattle.descriptor.specs.declared.FoundSelector.{FoundSelector}
+use Rattle.descriptor.specs.declared.FoundSelector.the-variants.{Named, Outside}
+use Rattle.descriptor.specs.Numbers.{selected}
+use Rattle.descriptor.specs.Descriptors.{Proper, describe}
+use Rattle.descriptor.proofs.DescriptorLaws.{selected-named, selected-none}
+use Rattle.requests.specs.Requests.{fullRange}
+
+-- each selector begins a range of order 0
+pub aligned-single : (selector : ℕ) → aligned 0 selector ≡ true
+aligned-single selector = eq-eqb (selector % 1) 0 (omega arith)
+
+-- an aligned range that begins in its space lies in it
+pub full-proper : (space base order : ℕ) → space < spaces → order ≤ greatestOrder space → aligned order base ≡ true → base < selectors space → Proper (fullRange space base order)
+full-proper space base order is-space is-order is-aligned is-selector =
+    record {
+      space-small = is-space;
+      order-small = is-order;
+      base-aligned = is-aligned;
+      ends-inside = multiples-apart (2 ^ order) (aligned-divides order base .0 is-aligned) (size-divides order (greatestOrder space) is-order) is-selector;
+      mask-small = omega arith;
+    }
+
+-- the word of a selector names it in its space
+module _ (space base : ℕ) {found : FoundSelector} (is-found : found ≡ selected space base) (is-selector : base < selectors space) where
+  pub never-outside : found ≡ Outside → ⊥
+  never-outside none = selected-none space base is-selector (sym is-found ∙ none)
+
+  module _ {selector : Selector} (is-named : found ≡ Named selector) where
+    named-same : selector .0 ≡ base
+    named-same = selected-named space base selector is-selector (sym is-found ∙ is-named)
+
+    -- so that the range from it on is as proper
+    pub named-proper : (order : ℕ) → space < spaces → order ≤ greatestOrder space → aligned order base ≡ true → Proper (fullRange space (selector .0) order)
+    named-proper order is-space is-order is-aligned = rw named-same (full-proper space base order is-space is-order is-aligned is-selector)
+
+    -- and its descriptor is that range's
+    pub named-describes : (order : ℕ) {descriptor word : ℕ} → word ≡ descriptor → descriptor ≡ describe (fullRange space (selector .0) order) →
+        word ≡ describe (fullRange space base order)
+    named-describes order is-word described = is-word ∙ rw (sym named-same) described

@@ -1,0 +1,2 @@
+-- What the contracts of the requests cite.
+pub mod Requests
