@@ -1,7 +1,7 @@
 -- Laws of revocation on the place table: what stripping one place leaves, and what stripping the marked places in turn leaves.
-use Prim.Native.Nat.{ℕ, _+_, _/_, _%_, _≤_, _<_}
+use Prim.Native.Nat.{ℕ, _+_, _-_, _/_, _%_, _≤_, _<_}
 use mathlib.Core.Path.{_≡_, refl, sym, ap, _∙_}
-use mathlib.Core.Bool.{Bool, true, false, _&&_}
+use mathlib.Core.Bool.{Bool, true, false, not, _&&_, _||_, and-false}
 use mathlib.Core.List.{List}
 use native.Mathlib.Nat.{zero-div, zero-mod}
 use native.Mathlib.Omega.{arith}
@@ -9,7 +9,7 @@ use lib.Dec.{eqb, ltb}
 use lib.ListN.{length}
 use borrow.Author.Tests.{eqb-true, eqb-false, eq-eqb, ne-eqb, lt-ltb, le-ltb, ltb-true, ltb-false}
 use Rattle.words.specs.Fields.{bits}
-use Rattle.words.specs.Sizes.{places}
+use Rattle.words.specs.Sizes.{places, spaceOf}
 use Rattle.words.specs.Permissions.{permits, revoked}
 use Rattle.interface.specs.Basics.{if_then_else_, word, put}
 use Rattle.interface.specs.Places.{Cap, nothing, capAt, capTable}
@@ -20,8 +20,8 @@ use Rattle.interface.proofs.CutLaws.{stripped-none, stripped-some}
 use Rattle.interface.proofs.CutSound.{cut-kept, cut-stripped}
 use Rattle.places.specs.Table.{Sized}
 use Rattle.places.proofs.CapTableLaws.{length-cap-table, cap-table-same, cap-at-table-below, cap-table-back}
-use Rattle.tree.specs.Walks.{cutAt, marksOf, markAt, placesOnly, Stepped, skips, strips, passes}
-use Rattle.tree.proofs.MarkLaws.{mark-at}
+use Rattle.tree.specs.Walks.{cutAt, wordBits, bitAt, markOf, markAt, Marked, placesOnly, Stepped, skips, strips, passes}
+use Rattle.tree.proofs.MarkLaws.{word-space, mark-word}
 
 -- what is stored at a place is what stripping leaves of it
 module _ (table : List ℕ) (place mask : ℕ) {left : ℕ} {cap : Cap} (is-cap : cap ≡ capAt table place) (is-left : left ≡ revoked (cap .permissions) mask) where
@@ -44,6 +44,16 @@ module _ (table : List ℕ) (place mask : ℕ) {left : ℕ} {cap : Cap} (is-cap 
 pub stripped-at : (before : List ℕ) {after : List ℕ} (mask number : ℕ) {at : ℕ} → at ≡ number → after ≡ capTable (put (capAt before) at (stripped mask (capAt before at))) →
     after ≡ capTable (put (capAt before) number (stripped mask (capAt before number)))
 stripped-at before mask number is-at e = rw is-at at e
+
+-- what a step reads of the marks at the place of a number
+module _ (marks : List ℕ) (space number : ℕ) {at in-space : ℕ} (is-at : at ≡ number) (is-space : in-space ≡ spaceOf at) where
+  pub read-word : {mark : ℕ} → mark ≡ markOf at →
+      (eqb (number % wordBits) 0 && (not (eqb in-space space) || eqb (word marks (mark / wordBits)) 0)) ≡ true →
+      (eqb (number % wordBits) 0 && (not (eqb (spaceOf number) space) || eqb (word marks (markOf number / wordBits)) 0)) ≡ true
+  read-word is-mark tested = rw (is-mark, is-space, is-at) at tested
+
+  pub read-mark : {bit answer : Bool} → bit ≡ bitAt marks (markOf at) → (eqb in-space space && bit) ≡ answer → markAt space marks number ≡ answer
+  read-mark is-bit tested = rw (is-bit, is-space, is-at) at tested
 
 -- no bit of 0 is set
 no-bit : (i : ℕ) → permits i 0 ≡ false
@@ -95,10 +105,10 @@ module _ (table : List ℕ) (mask first size : ℕ) (self : Bool) where
       (λ (t : eqb p number ≡ true). rw (eqb-true p number t) (here ∙ sym (cut-below (number + 1) number (omega arith))))
       (λ (f : eqb p number ≡ false). there p l (eqb-false p number f) ∙ elsewhere number p (eqb-false p number f)))
 
-  module _ {now marks : List ℕ} {answer : Bool} (number : ℕ) (so-far : now ≡ capTable (cutBelow number)) (l : number < places)
-      (are-marks : marks ≡ marksOf (cutAt (capAt table) first size self)) (told : answer ≡ markAt marks number) where
+  module _ {now marks : List ℕ} {space : ℕ} {answer : Bool} (number : ℕ) (so-far : now ≡ capTable (cutBelow number)) (l : number < places)
+      (are-marks : Marked (cutAt (capAt table) first size self) places space marks) (told : answer ≡ markAt space marks number) where
     is-cut : answer ≡ cutAt (capAt table) first size self number
-    is-cut = told ∙ rw are-marks (mark-at (cutAt (capAt table) first size self) number l)
+    is-cut = told ∙ are-marks .told number l
 
     shows : (p : ℕ) → p < places → capAt now p ≡ cutBelow number p
     shows p small = rw so-far (cap-at-table-below (cutBelow number) p small)
@@ -119,42 +129,53 @@ module _ (table : List ℕ) (mask first size : ℕ) (self : Bool) where
         one-further number (cutBelow number)
         (kept-from number number (omega arith) ∙ sym (cut-kept (placesOnly table) mask first size self number (sym is-cut ∙ f))) (λ p small n. refl)
 
-  -- a word without a mark: none of its places is cut
-  module _ {now marks : List ℕ} (number : ℕ) (so-far : now ≡ capTable (cutBelow number)) (l : number < places)
-      (are-marks : marks ≡ marksOf (cutAt (capAt table) first size self)) where
-    word-unmarked : number % 32 ≡ 0 → word marks (number / 32) ≡ 0 → (p : ℕ) → number ≤ p → p < number + 32 → p < places →
-        cutAt (capAt table) first size self p ≡ false
-    word-unmarked whole none p from before small =
-        let same : p / 32 ≡ number / 32 = omega arith in
-        let told : markAt marks p ≡ cutAt (capAt table) first size self p = rw are-marks (mark-at (cutAt (capAt table) first size self) p small) in
-        sym told ∙ rw (same, none) (no-bit (p % 32))
+  -- a word of another space or without a mark: none of its places is cut
+  module _ {now marks : List ℕ} {space : ℕ} (number : ℕ) (so-far : now ≡ capTable (cutBelow number)) (l : number < places)
+      (are-marks : Marked (cutAt (capAt table) first size self) places space marks) where
+    abbrev passed : Bool
+    passed = not (eqb (spaceOf number) space) || eqb (word marks (markOf number / wordBits)) 0
 
-    cut-skipped : number % 32 ≡ 0 → word marks (number / 32) ≡ 0 → now ≡ capTable (cutBelow (number + 32))
-    cut-skipped whole none =
+    word-unmarked : number % wordBits ≡ 0 → passed ≡ true → (p : ℕ) → number ≤ p → p < number + wordBits → p < places →
+        cutAt (capAt table) first size self p ≡ false
+    word-unmarked whole pass p from before small =
+        let i = p - number in
+        let is-p : p ≡ number + i = omega arith in
+        let same : spaceOf p ≡ spaceOf number = rw is-p (word-space number i whole (omega arith)) in
+        let at : markOf p / wordBits ≡ markOf number / wordBits = rw is-p (mark-word number whole i (omega arith)) in
+        sym (are-marks .told p small) ∙
+        cases (eqb (spaceOf number) space)
+        (λ (t : eqb (spaceOf number) space ≡ true).
+        let none : eqb (word marks (markOf number / wordBits)) 0 ≡ true = rw t at pass in
+        let unset : bitAt marks (markOf p) ≡ false = rw (at, eqb-true (word marks (markOf number / wordBits)) 0 none) (no-bit (markOf p % wordBits)) in
+        rw unset (and-false (eqb (spaceOf p) space)))
+        (λ (f : eqb (spaceOf number) space ≡ false). rw (same, f))
+
+    cut-skipped : number % wordBits ≡ 0 → passed ≡ true → now ≡ capTable (cutBelow (number + wordBits))
+    cut-skipped whole pass =
         so-far ∙
-        cap-table-same (cutBelow number) (cutBelow (number + 32))
+        cap-table-same (cutBelow number) (cutBelow (number + wordBits))
         (λ p small.
         cases (ltb p number)
         (λ (t : ltb p number ≡ true).
         let b = ltb-true p number t in
-        cut-below number p b ∙ sym (cut-below (number + 32) p (omega arith)))
+        cut-below number p b ∙ sym (cut-below (number + wordBits) p (omega arith)))
         (λ (f : ltb p number ≡ false).
         let from = ltb-false p number f in
-        cases (ltb p (number + 32))
-        (λ (t : ltb p (number + 32) ≡ true).
-        let b = ltb-true p (number + 32) t in
+        cases (ltb p (number + wordBits))
+        (λ (t : ltb p (number + wordBits) ≡ true).
+        let b = ltb-true p (number + wordBits) t in
         kept-from number p from ∙
-        sym (cut-below (number + 32) p b ∙ cut-kept (placesOnly table) mask first size self p (word-unmarked whole none p from b small)))
-        (λ (g : ltb p (number + 32) ≡ false).
-        kept-from number p from ∙ sym (kept-from (number + 32) p (ltb-false p (number + 32) g)))))
+        sym (cut-below (number + wordBits) p b ∙ cut-kept (placesOnly table) mask first size self p (word-unmarked whole pass p from b small)))
+        (λ (g : ltb p (number + wordBits) ≡ false).
+        kept-from number p from ∙ sym (kept-from (number + wordBits) p (ltb-false p (number + wordBits) g)))))
 
     -- what a step leads to
-    pub cut-step : {after : List ℕ} {next : ℕ} → Stepped now marks mask number after next →
+    pub cut-step : {after : List ℕ} {next : ℕ} → Stepped now marks mask space number after next →
         (number < next) × (next ≤ places) × (after ≡ capTable (cutBelow next))
     cut-step (skips is-next tested same) =
-        let whole = eqb-true (number % 32) 0 (and-left (eqb (number % 32) 0) (eqb (word marks (number / 32)) 0) tested) in
-        let none = eqb-true (word marks (number / 32)) 0 (and-right (eqb (number % 32) 0) (eqb (word marks (number / 32)) 0) tested) in
-        (omega arith, omega arith, same ∙ cut-skipped whole none ∙ ap (λ (n : ℕ). capTable (cutBelow n)) (sym is-next))
+        let whole = eqb-true (number % wordBits) 0 (and-left (eqb (number % wordBits) 0) passed tested) in
+        let pass = and-right (eqb (number % wordBits) 0) passed tested in
+        (omega arith, omega arith, same ∙ cut-skipped whole pass ∙ ap (λ (n : ℕ). capTable (cutBelow n)) (sym is-next))
     cut-step (strips is-next marked e) =
         (omega arith, omega arith, cut-marked number so-far l are-marks (sym marked) number refl refl e ∙ ap (λ (n : ℕ). capTable (cutBelow n)) (sym is-next))
     cut-step (passes is-next unmarked same) =
