@@ -4,17 +4,18 @@ use mathlib.Core.Path.{_≡_, refl, sym, ap, _∙_}
 use mathlib.Core.Logic.{_≢_}
 use mathlib.Core.Bool.{Bool, true, false, _&&_, _||_}
 use mathlib.Core.List.{List}
-use native.Mathlib.Nat.{add-sub-cancel-left, add-zero, pow-zero, div-one, sub-self}
+use native.Mathlib.Nat.{add-sub-cancel-left, add-zero, pow-zero, div-one, sub-self, dvd-of-mod-eq-zero}
 use native.Mathlib.Numerals.{one-add}
 use native.Mathlib.Omega.{arith}
 use lib.Dec.{eqb, ltb}
 use lib.ListN.{length, set}
 use lib.Pow.{pow-mono, shr-shr}
-use borrow.Author.Tests.{ltb-true, ltb-false, lt-ltb, le-ltb, eqb-true, eq-eqb, ne-eqb}
+use borrow.Author.Tests.{ltb-true, ltb-false, eqb-true, eq-eqb, ne-eqb}
 use lib.Seq.{getD-set-same, getD-set-other}
-use Rattle.words.specs.Sizes.{io, object, spaces, start, stride, places, domainOf, spaceOf}
+use Rattle.words.specs.Sizes.{object, spaces, selectors, start, places, domainOf, spaceOf, selectorOf}
 use Rattle.words.specs.Permissions.{permits}
-use Rattle.words.proofs.PlaceLaws.{made-so, space-small, selector-small, domain-small}
+use Rattle.words.proofs.SizeLaws.{selectors-few}
+use Rattle.words.proofs.PlaceLaws.{made-so, space-small, selector-small, domain-small, run-space}
 use Rattle.interface.specs.Basics.{if_then_else_}
 use Rattle.interface.specs.Places.{Cap}
 use Rattle.interface.specs.Effects.{among, below}
@@ -120,7 +121,7 @@ cut-marked caps first size place above self marks is-inside above-is-inside is-b
     rw (is-inside, above-is-inside, is-below, is-mark, bit)
     (ap (λ (t : Bool). t || (self && among first size place)) (above-told (among first size above) (below caps first size above) self))
 
--- the place's words before its space
+-- a space begins at a word's first place
 start-whole : (space : ℕ) → space < spaces → start space % wordBits ≡ 0
 start-whole zero l = refl
 start-whole (suc zero) l = refl
@@ -129,34 +130,24 @@ start-whole (suc (suc (suc space))) l = absurd (omega arith)
 
 -- the places of a word of marks are of one space
 pub word-space : (from i : ℕ) → from % wordBits ≡ 0 → i < wordBits → spaceOf (from + i) ≡ spaceOf from
-unfolding spaceOf
 word-space from i whole l =
-    let r = from % stride in
-    let rest : (from + i) % stride ≡ r + i = omega arith in
-    rw rest
-    (cases (ltb r (start io))
-    (λ (t : ltb r (start io) ≡ true). let low = ltb-true r (start io) t in rw (t, lt-ltb (r + i) (start io) (omega arith)))
-    (λ (f : ltb r (start io) ≡ false).
-    let high = ltb-false r (start io) f in
-    cases (ltb r (start object))
-    (λ (t : ltb r (start object) ≡ true).
-    let low = ltb-true r (start object) t in
-    rw (f, t, le-ltb (r + i) (start io) (omega arith), lt-ltb (r + i) (start object) (omega arith)))
-    (λ (g : ltb r (start object) ≡ false).
-    let higher = ltb-false r (start object) g in
-    rw (f, g, le-ltb (r + i) (start io) (omega arith), le-ltb (r + i) (start object) (omega arith)))))
+    run-space wordBits from i (dvd-of-mod-eq-zero wordBits refl) (dvd-of-mod-eq-zero wordBits refl) (dvd-of-mod-eq-zero wordBits whole) l
+
+-- no space has a selector past those that its marks are for
+selector-few : (place : ℕ) → selectorOf place < selectors object
+selector-few place = omega (arith, selector-small place, selectors-few (spaceOf place))
 
 -- a place has its mark among the words
 pub mark-small : (place : ℕ) → place < places → markOf place / wordBits < markWords
-mark-small place l = omega (arith, selector-small place, domain-small place l)
+mark-small place l = omega (arith, selector-few place, domain-small place l)
 
 -- the marks of a space rise with its places
 mark-rises : (p q : ℕ) → p < q → spaceOf p ≡ spaceOf q → markOf p < markOf q
 mark-rises p q l same =
     let p-made = made-so p in
     let q-made = made-so q in
-    let p-small = selector-small p in
-    let q-small = selector-small q in
+    let p-small = selector-few p in
+    let q-small = selector-few q in
     let starts : start (spaceOf p) ≡ start (spaceOf q) = ap start same in
     cases (ltb (domainOf p) (domainOf q)) (λ (t : ltb (domainOf p) (domainOf q) ≡ true). let less = ltb-true (domainOf p) (domainOf q) t in omega arith)
     (λ (f : ltb (domainOf p) (domainOf q) ≡ false). let more = ltb-false (domainOf p) (domainOf q) f in omega arith)
@@ -174,7 +165,7 @@ module _ (from : ℕ) (whole : from % wordBits ≡ 0) where
       let starts : start (spaceOf (from + i)) ≡ start (spaceOf from) = ap start (word-space from i whole l) in
       let made = made-so from in
       let made-after = made-so (from + i) in
-      let small = selector-small (from + i) in
+      let small = selector-few (from + i) in
       omega arith
 
   -- where a mark stands

@@ -20,7 +20,7 @@ use words::sizes;
 // The bits of a word, and the words of a space's marks: in each domain as many marks as the object space has selectors.
 const WORD_BITS: u32 = 32;
 
-const MARK_WORDS: usize = (sizes::DOMAINS * sizes::SELECTORS / WORD_BITS) as usize;
+const MARK_WORDS: usize = (sizes::DOMAINS * sizes::OBJECTS / WORD_BITS) as usize;
 
 // The nearest strict ancestor of a place among as many places as `size` says from `first` on: its link word, or 0 where there is none. The walk goes to the parent, whose
 // depth is one less.
@@ -51,7 +51,7 @@ fn mark_of(place: Place) -> u32
     requires { ⌜ place .0 < places ⌝ }
     ensures { λ r. ⌜ r ≡ markOf (place .0) ⌝ }
 {
-    place.domain() * sizes::SELECTORS + place.selector().number()
+    place.domain() * sizes::OBJECTS + place.selector().number()
 }
 
 // Whether a place of the space whose marks these are is marked.
