@@ -10,7 +10,7 @@ use native.Mathlib.Omega.{arith}
 use lib.Dec.{eqb, ltb}
 use lib.ListN.{length, set}
 use lib.Pow.{pow-mono, shr-shr}
-use borrow.Author.Tests.{ltb-true, ltb-false, eqb-true, eq-eqb, ne-eqb}
+use borrow.Author.Tests.{ltb-true, ltb-false, lt-ltb, eqb-true, eq-eqb, ne-eqb}
 use lib.Seq.{getD-set-same, getD-set-other}
 use Rattle.words.specs.Sizes.{object, spaces, selectors, start, places, domainOf, spaceOf, selectorOf}
 use Rattle.words.specs.Permissions.{permits}
@@ -20,7 +20,7 @@ use Rattle.interface.specs.Basics.{if_then_else_}
 use Rattle.interface.specs.Places.{Cap}
 use Rattle.interface.specs.Effects.{among, below}
 use Rattle.interface.proofs.BoolLaws.{cases}
-use Rattle.tree.specs.Walks.{cutAt, packed, wordBits, bitAt, markOf, markWords, markAt, Marked}
+use Rattle.tree.specs.Walks.{cutAt, packed, wordBits, bitAt, allMarks, markOf, markWords, markedPlace, markAt, Marked}
 
 module _ (test : ℕ → Bool) where
   -- the bit that tells the answer for a place
@@ -137,9 +137,26 @@ word-space from i whole l =
 selector-few : (place : ℕ) → selectorOf place < selectors object
 selector-few place = omega (arith, selector-small place, selectors-few (spaceOf place))
 
--- a place has its mark among the words
+-- a place has its mark among those of its space, and among their words
+pub mark-below : (place : ℕ) → place < places → markOf place < allMarks
+mark-below place l = omega (arith, selector-few place, domain-small place l)
+
 pub mark-small : (place : ℕ) → place < places → markOf place / wordBits < markWords
-mark-small place l = omega (arith, selector-few place, domain-small place l)
+mark-small place l = omega (arith, mark-below place l)
+
+-- the place of a place's mark is that place, and its space has it
+pub mark-place : (place space : ℕ) → spaceOf place ≡ space → markedPlace space (markOf place) ≡ place
+mark-place place space same =
+    let few = selector-few place in
+    let domain : markOf place / selectors object ≡ domainOf place = omega arith in
+    let selector : markOf place % selectors object ≡ selectorOf place = omega arith in
+    rw (domain, selector, ← same) (made-so place)
+
+pub mark-inside : (place space : ℕ) → spaceOf place ≡ space → ltb (markOf place % selectors object) (selectors space) ≡ true
+mark-inside place space same =
+    let few = selector-few place in
+    let selector : markOf place % selectors object ≡ selectorOf place = omega arith in
+    rw (selector, ← same) (lt-ltb (selectorOf place) (selectors (spaceOf place)) (selector-small place))
 
 -- the marks of a space rise with its places
 mark-rises : (p q : ℕ) → p < q → spaceOf p ≡ spaceOf q → markOf p < markOf q
@@ -169,10 +186,10 @@ module _ (from : ℕ) (whole : from % wordBits ≡ 0) where
       omega arith
 
   -- where a mark stands
-  pub mark-bit : (i : ℕ) → i < wordBits → markOf (from + i) % wordBits ≡ i
+  mark-bit : (i : ℕ) → i < wordBits → markOf (from + i) % wordBits ≡ i
   mark-bit i l = omega (arith, mark-whole, mark-after i l)
 
-  pub mark-word : (i : ℕ) → i < wordBits → markOf (from + i) / wordBits ≡ markOf from / wordBits
+  mark-word : (i : ℕ) → i < wordBits → markOf (from + i) / wordBits ≡ markOf from / wordBits
   mark-word i l = omega (arith, mark-whole, mark-after i l)
 
   -- a mark of the same space before those of the word is in another word

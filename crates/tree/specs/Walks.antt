@@ -1,10 +1,10 @@
 -- Walks along the parent links of a place table.
 use Prim.Native.Nat.{ℕ, _≤_, zero, suc, _+_, _*_, _/_, _%_, _<_}
 use mathlib.Core.Path.{_≡_}
-use mathlib.Core.Bool.{Bool, true, false, not, _&&_, _||_}
+use mathlib.Core.Bool.{Bool, true, false, _&&_, _||_}
 use lib.Dec.{eqb, ltb}
 use mathlib.Core.List.{List, [], _∷_}
-use Rattle.words.specs.Sizes.{domains, object, selectors, places, domainOf, spaceOf, selectorOf}
+use Rattle.words.specs.Sizes.{domains, object, selectors, places, placeOf, domainOf, spaceOf, selectorOf}
 use Rattle.words.specs.Permissions.{permits}
 use Rattle.interface.specs.Basics.{if_then_else_, word, put, allBelow}
 use Rattle.interface.specs.Places.{Cap, State, capAt, capTable}
@@ -54,13 +54,23 @@ meets first size from = ltb first (from + wordBits) && ltb from (first + size)
 abbrev pub bitAt : List ℕ → ℕ → Bool
 bitAt words number = permits (number % wordBits) (word words (number / wordBits))
 
--- the number of a place's mark among those of its space: in each domain there are as many as the object space has selectors
+-- the marks of a space, in each domain as many as the object space has selectors, and their words
+abbrev pub allMarks : ℕ
+allMarks = domains * selectors object
+
+abbrev pub markWords : ℕ
+markWords = allMarks / wordBits
+
+-- the number of a place's mark among those of its space, and the place of a mark
 abbrev pub markOf : ℕ → ℕ
 markOf place = domainOf place * selectors object + selectorOf place
 
--- the words of a space's marks
-abbrev pub markWords : ℕ
-markWords = domains * selectors object / wordBits
+abbrev pub markedPlace : ℕ → ℕ → ℕ
+markedPlace space number = placeOf (number / selectors object) space (number % selectors object)
+
+-- whether a mark is set and its space has the place
+abbrev pub stands : ℕ → List ℕ → ℕ → Bool
+stands space marks number = bitAt marks number && ltb (number % selectors object) (selectors space)
 
 -- whether a place is of a space and has its mark there
 abbrev pub markAt : ℕ → List ℕ → ℕ → Bool
@@ -81,11 +91,11 @@ pub record Marking (table : List ℕ) (first size : ℕ) (self : Bool) (walked s
 abbrev pub placesOnly : List ℕ → State
 placesOnly table = record { caps = capAt table; objects = λ number index. 0 }
 
--- a step of a revocation from a place: it passes all places of a word of another space or without a mark, strips the place, or passes it
+-- a step of a revocation from a mark: it passes all marks of a word that has none set, strips the mark's place, or passes the mark
 pub data Stepped (before marks : List ℕ) (mask space number : ℕ) (after : List ℕ) (next : ℕ) : Type 0 where
-  skips : next ≡ number + wordBits →
-      (eqb (number % wordBits) 0 && (not (eqb (spaceOf number) space) || eqb (word marks (markOf number / wordBits)) 0)) ≡ true → after ≡ before →
+  skips : next ≡ number + wordBits → (eqb (number % wordBits) 0 && eqb (word marks (number / wordBits)) 0) ≡ true → after ≡ before →
       Stepped before marks mask space number after next
-  strips : next ≡ number + 1 → markAt space marks number ≡ true → after ≡ capTable (put (capAt before) number (stripped mask (capAt before number))) →
+  strips : next ≡ number + 1 → stands space marks number ≡ true →
+      after ≡ capTable (put (capAt before) (markedPlace space number) (stripped mask (capAt before (markedPlace space number)))) →
       Stepped before marks mask space number after next
-  passes : next ≡ number + 1 → markAt space marks number ≡ false → after ≡ before → Stepped before marks mask space number after next
+  passes : next ≡ number + 1 → stands space marks number ≡ false → after ≡ before → Stepped before marks mask space number after next

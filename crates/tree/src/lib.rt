@@ -3,24 +3,28 @@ ghost use mathlib.Core.Path.{_≡_};
 ghost use Prim.Native.Nat.{_+_, _%_, _<_, _≤_};
 ghost use mathlib.Core.List.{_∷_, _++_};
 ghost use lib.ListN.{length, drop};
-ghost use Rattle.words.specs.Sizes.{places, spaceOf};
+ghost use Rattle.words.specs.Sizes.{spaces, places, spaceOf};
 ghost use Rattle.interface.specs.Basics.{put};
 ghost use Rattle.interface.specs.Places.{capAt, capTable};
 ghost use Rattle.interface.specs.Effects.{ancestors, below, stripped, cutCaps};
 ghost use Rattle.interface.specs.Census.{descendants, counted};
 ghost use Rattle.places.specs.Table.{Sized};
-ghost use Rattle.tree.specs.Walks.{Linked, InSpace, Stepped, firstAmong, cutAt, wordBits, packed, markOf, bitAt, Marked, Marking, meets, parentlessFrom, placesOnly};
+ghost use Rattle.tree.specs.Walks.{Linked, InSpace, Stepped, firstAmong, cutAt, wordBits, packed, allMarks, markOf, bitAt, Marked, Marking, meets, parentlessFrom, placesOnly};
 use descriptor::Cap;
 use descriptor::FoundPlace;
 use descriptor::Place;
 use descriptor::Reply;
+use descriptor::Selector;
 use words::permissions;
 use words::sizes;
 
-// The bits of a word, and the words of a space's marks: in each domain as many marks as the object space has selectors.
+// The bits of a word.
 const WORD_BITS: u32 = 32;
 
-const MARK_WORDS: usize = (sizes::DOMAINS * sizes::OBJECTS / WORD_BITS) as usize;
+// The marks of a space, in each domain as many as the object space has selectors, and their words.
+const MARKS: u32 = sizes::DOMAINS * sizes::OBJECTS;
+
+const MARK_WORDS: usize = (MARKS / WORD_BITS) as usize;
 
 // The nearest strict ancestor of a place among as many places as `size` says from `first` on: its link word, or 0 where there is none. The walk goes to the parent, whose
 // depth is one less.
@@ -179,13 +183,13 @@ pub fn cut(table: &mut [u32], mask: u32, first: Place, size: u32, self_too: bool
     let space = first.space();
     let marked = marks(table, first, size, self_too);
     let mut number = 0u32;
-    while number < sizes::PLACES {
+    while number < MARKS {
         number = strip_next(table, &marked, mask, space, number);
     }
 }
 
-// Removes a mask's permissions from the place that the count has come to if it is of the marks' space and marked. Answers the next count: past all those of a word of another space or
-// without a mark.
+// Removes a mask's permissions from the place of the mark that the count has come to, if it is set and the space has that place. Answers the next count: past all marks of a word
+// that has none set.
 fn strip_next(
     table: &mut [u32],
     marked: &[u32; MARK_WORDS],
@@ -193,16 +197,17 @@ fn strip_next(
     space: u32,
     number: u32,
 ) -> u32
-    requires { ⌜ Sized (now table) × (number < places) ⌝ }
+    requires { ⌜ Sized (now table) × (space < spaces) × (number < allMarks) ⌝ }
     ensures { λ r. ⌜ Stepped (now (table .entry)) (now (marked .entry)) mask space number (now (table .exit)) r ⌝ }
 {
-    let place = Place::counted(number);
-    let inside = place.space() == space;
-    let word = marked[(mark_of(place) / WORD_BITS) as usize];
-    if (number % WORD_BITS == 0) & (!inside | (word == 0)) {
+    let word = marked[(number / WORD_BITS) as usize];
+    if (number % WORD_BITS == 0) & (word == 0) {
         return number + WORD_BITS;
     }
-    if inside & is_marked(marked, place) {
+    let selector = Selector::wrapped(number);
+    let known = selector.number() < sizes::selectors(space);
+    if permissions::has(number % WORD_BITS, word) & known {
+        let place = Place::of(number / sizes::OBJECTS, space, selector);
         strip(table, place, mask);
         return number + 1;
     }
