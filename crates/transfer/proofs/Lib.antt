@@ -1,8 +1,5 @@
 -- What is proved of the message block's definitions.
 pub mod BlockLaws
-pub mod LiveLinkLaws
-pub mod DelegateLaws
-pub mod TranslateLaws
 pub mod ItemLaws
 pub mod MovedLaws
 pub mod UnseenLaws

@@ -17,8 +17,9 @@ use Rattle.interface.proofs.TurnLaws.{run-append}
 use Rattle.places.specs.Table.{Sized}
 use Rattle.places.proofs.CapTableLaws.{length-cap-table, cap-table-back}
 use Rattle.tree.specs.Walks.{placesOnly}
+use Rattle.delegation.specs.Delegating.{LiveLinks}
 use Rattle.transfer.specs.declared.Outcome.{Outcome}
-use Rattle.transfer.specs.Typed.{LiveLinks, itemBy, Done}
+use Rattle.transfer.specs.Typed.{itemBy, Done}
 use Rattle.transfer.specs.Turns.{Blocks, Ready, movedBy, Transferred}
 use Rattle.transfer.proofs.BlockLaws.{counts-fit, copied-length}
 

@@ -10,7 +10,8 @@ use Rattle.interface.specs.Places.{State, capAt, capTable}
 use Rattle.interface.specs.Effects.{run, filled}
 use Rattle.interface.specs.Message.{payloadFits, payloadWords, itemWords, descriptorAt, secondAt, delegateBit, receivedWord, Moved}
 use Rattle.tree.specs.Walks.{placesOnly}
-use Rattle.transfer.specs.Typed.{LiveLinks, itemBy}
+use Rattle.delegation.specs.Delegating.{LiveLinks}
+use Rattle.transfer.specs.Typed.{itemBy}
 
 -- two blocks of a message whose counts fit
 pub record Blocks (source target : List ℕ) : Type 0 where

@@ -1,33 +1,26 @@
 // The message block: the untyped words, and the typed items, each translated or delegated in its turn.
-ghost use Prim.Native.Nat.{_+_, _%_, _^_, _<_, _≤_, min};
+ghost use Prim.Native.Nat.{_+_, _<_, _≤_};
 ghost use mathlib.Core.Path.{_≡_};
-ghost use lib.Dec.{eqb};
 ghost use lib.ListN.{length, drop};
 ghost use lib.Seq.{paste};
-ghost use Rattle.words.specs.Sizes.{domains, places, placeOf};
-ghost use Rattle.words.specs.Ranges.{rounded};
+ghost use Rattle.words.specs.Sizes.{domains};
 ghost use Rattle.descriptor.specs.declared.Range.{Range};
 ghost use Rattle.descriptor.specs.declared.Match.the-variants.{Both};
 ghost use Rattle.descriptor.specs.declared.Received.the-variants.{Shows};
-ghost use Rattle.descriptor.specs.Numbers.{linked};
-ghost use Rattle.descriptor.specs.Descriptors.{null, describe, reading, matched, Proper};
-ghost use Rattle.interface.specs.Basics.{if_then_else_};
+ghost use Rattle.descriptor.specs.Descriptors.{null, Proper};
 ghost use Rattle.interface.specs.Places.{capAt};
-ghost use Rattle.interface.specs.Message.{headWords, untypedCount, typedCount, payloadFits, untypedPart, receivedWord, sourceDomain, delegations, delegateItem, nearest, senderPlace, translateItem, untypedCopied, transfer};
+ghost use Rattle.interface.specs.Message.{headWords, untypedCount, typedCount, payloadFits, untypedPart};
+ghost use Rattle.interface.specs.Message.{receivedWord, sourceDomain, delegateItem, untypedCopied, transfer};
 ghost use Rattle.places.specs.Table.{Sized};
 ghost use Rattle.tree.specs.Walks.{Linked, placesOnly};
-ghost use Rattle.transfer.specs.Typed.{LiveLinks, Matched, GivenAt, Taken, destinationOf, liesThere, itemBy, Done};
+ghost use Rattle.windows.specs.Matching.{Matched};
+ghost use Rattle.delegation.specs.Delegating.{LiveLinks};
+ghost use Rattle.transfer.specs.Typed.{itemBy, Done};
 ghost use Rattle.transfer.specs.Turns.{Blocks, Ready, movedBy, Transferred};
 use descriptor::Descriptor;
-use descriptor::FoundPlace;
 use descriptor::Match;
-use descriptor::Place;
 use descriptor::Range;
-use descriptor::Reason;
 use descriptor::Received;
-use descriptor::Selector;
-use words::permissions;
-use words::ranges;
 use words::sizes;
 
 // The words before the payload, and where among them the receiver has its windows.
@@ -98,149 +91,6 @@ pub fn untyped(block: &[u32]) -> &[u32]
     &block[HEAD_WORDS..end]
 }
 
-// The smaller of two orders.
-fn smaller(a: u32, b: u32) -> u32
-    ensures { λ r. ⌜ r ≡ min a b ⌝ }
-{
-    if a < b {
-        return a;
-    }
-    b
-}
-
-// Where the part of an order that a delegation uses begins in a side of it: around the hotspot.
-fn offset(side: u32, order: u32, hotspot: u32) -> u32
-    requires { ⌜ (side < 32) × (order ≤ side) ⌝ }
-    ensures { λ r. ⌜ (r ≡ rounded order (hotspot % 2 ^ side)) × (r + 2 ^ order ≤ 2 ^ side) ⌝ }
-{
-    ranges::round_down(order, hotspot % ranges::size(side))
-}
-
-// Delegates the place at an offset of the item to the place at an offset of its window. Answers whether it filled that.
-fn give_at(
-    table: &mut [u32],
-    from: u32,
-    to: u32,
-    item: Range,
-    at: u32,
-    window: Range,
-    into: u32,
-) -> bool
-    requires { ⌜ Sized (now table) × (from < domains) × (to < domains) × Matched item window × (at < 2 ^ item .order) × (into < 2 ^ window .order) ⌝ }
-    ensures { λ r. ⌜ GivenAt (now (table .entry)) (now (table .exit)) (placeOf to (item .space) (window .base + into)) (placeOf from (item .space) (item .base + at)) (item .mask) r ⌝ }
-{
-    let space = item.space();
-    let source = Place::of(from, space, item.at(at));
-    let destination = Place::of(to, space, window.at(into));
-    places::give(table, destination, source, item.mask())
-}
-
-// Delegates an item's places to those of its window, offset by offset, on the table as it stands. Answers how many places it filled.
-pub fn delegate(
-    table: &mut [u32],
-    from: u32,
-    to: u32,
-    hotspot: u32,
-    item: Range,
-    window: Range,
-) -> u32
-    requires { ⌜ Sized (now table) × (from < domains) × (to < domains) × Matched item window ⌝ }
-    ensures { λ r. ⌜ Taken (now (table .entry)) (now (table .exit)) (delegations from to hotspot item window) r ⌝ }
-{
-    let item_order = item.order();
-    let window_order = window.order();
-    let order = smaller(item_order, window_order);
-    let item_offset = offset(item_order, order, hotspot);
-    let window_offset = offset(window_order, order, hotspot);
-    let size = ranges::size(order);
-    let mut count = 0u32;
-    let mut i = 0u32;
-    while i < size {
-        if give_at(
-            table,
-            from,
-            to,
-            item,
-            item_offset + i,
-            window,
-            window_offset + i,
-        ) {
-            count += 1;
-        }
-        i += 1;
-    }
-    count
-}
-
-// The sender's place at an offset of its range.
-fn place_at(sender: u32, item: Range, offset: u32) -> Place
-    requires { ⌜ (sender < domains) × Proper item × (offset < 2 ^ item .order) ⌝ }
-    ensures { λ r. ⌜ (r .0 ≡ senderPlace sender item offset) × (r .0 < places) ⌝ }
-{
-    Place::of(sender, item.space(), item.at(offset))
-}
-
-// The nearest strict ancestor of a place in a domain, if there is one.
-fn nearest_in(table: &[u32], domain: u32, place: Place) -> FoundPlace
-    requires { ⌜ Sized (now table) × Linked (capAt (now table)) × (domain < domains) × (place .0 < places) ⌝ }
-    ensures { λ r. ⌜ r ≡ linked (nearest (capAt (now (table .entry))) domain (place .0)) ⌝ }
-{
-    Place::linked(tree::ancestor(table, place, Place::first_of(domain), sizes::STRIDE))
-}
-
-// R, where all the ancestors' range begins: the selector found at offset 0.
-fn base_of(offset: u32, selector: Selector, base: Selector) -> Selector
-    ensures { λ r. ⌜ r .0 ≡ (if eqb offset 0 then selector .0 else base .0) ⌝ }
-{
-    if offset == 0 {
-        return selector;
-    }
-    base
-}
-
-// Whether a selector lies at R + offset, R is aligned, and the selector lies inside the window.
-fn lies_there(selector: u32, base: u32, order: u32, offset: u32, window: Range) -> bool
-    requires { ⌜ (order < 32) × (base + offset < 2 ^ 32) × Proper window ⌝ }
-    ensures { λ r. ⌜ r ≡ liesThere selector base order offset window ⌝ }
-{
-    let start = window.at(0).number();
-    let end = start + ranges::size(window.order());
-    (selector == base + offset)
-        & ranges::is_aligned(order, base)
-        & (start <= selector)
-        & (selector < end)
-}
-
-// What the receiver is shown of an item that it is to have already: the range of the nearest ancestors. The first offset that has none, or whose one lies elsewhere, ends the search.
-pub fn translate(table: &[u32], sender: u32, receiver: u32, item: Range, window: Range) -> Received
-    requires { ⌜ Sized (now table) × Linked (capAt (now table)) × (sender < domains) × (receiver < domains) × Matched item window ⌝ }
-    ensures { λ r. ⌜ r ≡ translateItem (placesOnly (now (table .entry))) sender receiver (Both item window) .received ⌝ }
-{
-    let order = item.order();
-    let size = ranges::size(order);
-    let mut base = item.at(0);
-    let mut mask = item.mask();
-    let mut i = 0u32;
-    'search: while i < size {
-        let place = place_at(sender, item, i);
-        let FoundPlace::At(above) = nearest_in(table, receiver, place) else {
-            break 'search;
-        };
-        let selector = above.selector();
-        base = base_of(i, selector, base);
-        if !lies_there(selector.number(), base.number(), order, i, window) {
-            break 'search;
-        }
-        let cap = places::load(table, place);
-        mask = permissions::keep(mask, cap.permissions);
-        i += 1;
-    }
-    if i < size {
-        return Received::NullItem(Reason::TranslationBroke);
-    }
-    Received::Shows(Range::of(item.space(), base, order, mask))
-}
-
 // The domain that an item is delegated from: the sender's, or domain 0 where H is set and the sender is the root.
 fn source_domain(sender: u32, second: u32) -> u32
     ensures { λ r. ⌜ (r ≡ sourceDomain sender second) × (r ≤ sender) ⌝ }
@@ -251,14 +101,6 @@ fn source_domain(sender: u32, second: u32) -> u32
     sender
 }
 
-// The word of a range's descriptor.
-fn word_of(range: Range) -> u32
-    requires { ⌜ Proper range ⌝ }
-    ensures { λ r. ⌜ r ≡ describe range ⌝ }
-{
-    Descriptor::of(range.space(), range.at(0), range.order(), range.mask()).word()
-}
-
 // The word of the descriptor that the receiver is given.
 fn received_word(received: Received) -> u32
     requires { ⌜ ((range : Range) → received ≡ Shows range → Proper range) ⌝ }
@@ -266,19 +108,8 @@ fn received_word(received: Received) -> u32
 {
     match received {
         Received::NullItem(_) => Descriptor::NULL.word(),
-        Received::Shows(range) => word_of(range),
+        Received::Shows(range) => windows::word_of(range),
     }
-}
-
-// The range that a delegation fills.
-fn destination(hotspot: u32, item: Range, window: Range) -> Range
-    requires { ⌜ Matched item window ⌝ }
-    ensures { λ r. ⌜ r ≡ destinationOf hotspot item window ⌝ }
-{
-    let window_order = window.order();
-    let order = smaller(item.order(), window_order);
-    let base = window.at(offset(window_order, order, hotspot));
-    Range::of(item.space(), base, order, item.mask())
 }
 
 // Delegates an item. Where nothing is filled the item is null.
@@ -294,7 +125,7 @@ fn delegate_item(
     ensures { λ r. ⌜ Done (now (table .entry)) (now (table .exit)) (delegateItem (placesOnly (now (table .entry))) sender receiver second (Both item window)) r ⌝ }
 {
     let hotspot = second >> 12;
-    let filled = delegate(
+    let filled = delegation::delegate(
         table,
         source_domain(sender, second),
         receiver,
@@ -306,18 +137,9 @@ fn delegate_item(
         return null_item();
     }
     Outcome {
-        word: word_of(destination(hotspot, item, window)),
+        word: windows::word_of(windows::destination(hotspot, item, window)),
         filled,
     }
-}
-
-// An item's range with its window, by the words of their descriptors.
-fn matching(descriptor: u32, window: u32) -> Match
-    ensures { λ r. ⌜ r ≡ matched (reading descriptor) (reading window) ⌝ }
-{
-    Descriptor::from_word(descriptor)
-        .read()
-        .matching(Descriptor::from_word(window).read())
 }
 
 // One typed item on the table as it stands.
@@ -334,7 +156,7 @@ fn item(
     ensures { λ r. ⌜ Done (now (table .entry)) (now (table .exit)) (itemBy (placesOnly (now (table .entry))) sender receiver descriptor second translating delegating) r ⌝ }
 {
     if second % 2 == 1 {
-        return match matching(descriptor, delegating) {
+        return match windows::matching(descriptor, delegating) {
             Match::Neither(_) => null_item(),
             Match::Both(range, window) => delegate_item(
                 table,
@@ -346,10 +168,10 @@ fn item(
             ),
         };
     }
-    match matching(descriptor, translating) {
+    match windows::matching(descriptor, translating) {
         Match::Neither(_) => null_item(),
         Match::Both(range, window) => Outcome {
-            word: received_word(translate(table, sender, receiver, range, window)),
+            word: received_word(translation::translate(table, sender, receiver, range, window)),
             filled: 0,
         },
     }
