@@ -1,36 +1,30 @@
-// The message block: the untyped words, and the typed items, each translated or delegated in its turn.
+// A message from block to block: the untyped words, and the typed items, each translated or delegated in its turn.
 ghost use Prim.Native.Nat.{_+_, _<_, _≤_};
 ghost use mathlib.Core.Path.{_≡_};
-ghost use lib.ListN.{length, drop};
-ghost use lib.Seq.{paste};
 ghost use Rattle.words.specs.Sizes.{domains};
 ghost use Rattle.descriptor.specs.declared.Range.{Range};
 ghost use Rattle.descriptor.specs.declared.Match.the-variants.{Both};
 ghost use Rattle.descriptor.specs.declared.Received.the-variants.{Shows};
 ghost use Rattle.descriptor.specs.Descriptors.{null, Proper};
 ghost use Rattle.interface.specs.Places.{capAt};
-ghost use Rattle.interface.specs.Message.{headWords, untypedCount, typedCount, payloadFits, untypedPart};
-ghost use Rattle.interface.specs.Message.{receivedWord, sourceDomain, delegateItem, untypedCopied, transfer};
+ghost use Rattle.interface.specs.Message.{receivedWord, sourceDomain, delegateItem, transfer};
 ghost use Rattle.places.specs.Table.{Sized};
 ghost use Rattle.tree.specs.Walks.{Linked, placesOnly};
+ghost use Rattle.blocks.specs.Fitting.{Blocks};
 ghost use Rattle.windows.specs.Matching.{Matched};
 ghost use Rattle.delegation.specs.Delegating.{LiveLinks};
 ghost use Rattle.transfer.specs.Typed.{itemBy, Done};
-ghost use Rattle.transfer.specs.Turns.{Blocks, Ready, movedBy, Transferred};
+ghost use Rattle.transfer.specs.Turns.{Ready, movedBy, Transferred};
 use descriptor::Descriptor;
 use descriptor::Match;
 use descriptor::Range;
 use descriptor::Received;
 use words::sizes;
 
-// The words before the payload, and where among them the receiver has its windows.
-const HEAD_WORDS: usize = 4;
-
+// Where in a block the receiver has its windows.
 const TRANSLATE_WINDOW: usize = 1;
 
 const DELEGATE_WINDOW: usize = 2;
-
-const PAYLOAD_WORDS: u32 = 60;
 
 const ITEM_WORDS: usize = 2;
 
@@ -53,42 +47,6 @@ fn null_item() -> Outcome
         word: Descriptor::NULL.word(),
         filled: 0,
     }
-}
-
-// How many untyped words word 0 says.
-fn untyped_count(word0: u32) -> u32
-    ensures { λ r. ⌜ r ≡ untypedCount word0 ⌝ }
-{
-    word0 % 65536
-}
-
-// How many typed items word 0 says.
-fn typed_count(word0: u32) -> u32
-    ensures { λ r. ⌜ r ≡ typedCount word0 ⌝ }
-{
-    word0 >> 16
-}
-
-// Whether the untyped words and the typed items that word 0 says fit the payload.
-pub fn payload_fits(word0: u32) -> bool
-    ensures { λ r. ⌜ r ≡ payloadFits word0 ⌝ }
-{
-    untyped_count(word0) + 2 * typed_count(word0) <= PAYLOAD_WORDS
-}
-
-// The untyped part of a block: empty for a block of another length or whose counts do not fit.
-pub fn untyped(block: &[u32]) -> &[u32]
-    ensures { λ r. ⌜ now r ≡ untypedPart (now (block .entry)) ⌝ }
-{
-    if block.len() != sizes::BLOCK_WORDS {
-        return &block[0..0];
-    }
-    let word0 = block[0];
-    if !payload_fits(word0) {
-        return &block[0..0];
-    }
-    let end = HEAD_WORDS + (untyped_count(word0) as usize);
-    &block[HEAD_WORDS..end]
 }
 
 // The domain that an item is delegated from: the sender's, or domain 0 where H is set and the sender is the root.
@@ -215,28 +173,6 @@ fn items(
     filled
 }
 
-// Copies as many words of the payload as are untyped.
-fn copy_words(source: &[u32], target: &mut [u32], untyped: usize)
-    requires { ⌜ (headWords + untyped ≤ length (now source)) × (headWords + untyped ≤ length (now target)) ⌝ }
-    ensures { λ r. ⌜ now (target .exit) ≡ paste (now (target .entry)) headWords (drop headWords (now (source .entry))) untyped ⌝ }
-{
-    let mut i: usize = 0;
-    while i < untyped {
-        target[HEAD_WORDS + i] = source[HEAD_WORDS + i];
-        i += 1;
-    }
-}
-
-// Copies word 0 and the untyped words.
-fn copy_untyped(source: &[u32], target: &mut [u32])
-    requires { ⌜ Blocks (now source) (now target) ⌝ }
-    ensures { λ r. ⌜ now (target .exit) ≡ untypedCopied (now (source .entry)) (now (target .entry)) ⌝ }
-{
-    let word0 = source[0];
-    target[0] = word0;
-    copy_words(source, target, untyped_count(word0) as usize);
-}
-
 // Transfers a message from one domain to another: word 0 and the untyped words are copied, and the typed items go in turn. Answers how many places were filled.
 pub fn message(
     table: &mut [u32],
@@ -251,9 +187,9 @@ pub fn message(
     let word0 = source[0];
     let translating = target[TRANSLATE_WINDOW];
     let delegating = target[DELEGATE_WINDOW];
-    copy_untyped(source, target);
-    let above = HEAD_WORDS + (untyped_count(word0) as usize);
-    let typed = typed_count(word0) as usize;
+    blocks::copy_untyped(source, target);
+    let above = blocks::HEAD_WORDS + (blocks::untyped_count(word0) as usize);
+    let typed = blocks::typed_count(word0) as usize;
     items(
         table,
         sender,

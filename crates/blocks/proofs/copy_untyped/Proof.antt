@@ -5,9 +5,9 @@ use lib.ListN.{length-set}
 use denote.Ref.{now}
 use borrow.Author.Needs.{needs}
 use Rattle.interface.specs.Basics.{word}
-use Rattle.transfer.proofs.BlockLaws.{counts-fit, is-copied}
-use Rattle.transfer.proofs.copy_untyped.Statement.{statement}
-use Rattle.transfer.proofs.copy_untyped.Tie as tie
+use Rattle.blocks.proofs.BlockLaws.{counts-fit, is-copied}
+use Rattle.blocks.proofs.copy_untyped.Statement.{statement}
+use Rattle.blocks.proofs.copy_untyped.Tie as tie
 
 shared-slice-read-word0 : tie.Need-shared-slice-read-word0
 shared-slice-read-word0 c = search needs

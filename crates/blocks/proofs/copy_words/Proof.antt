@@ -6,9 +6,9 @@ use lib.ListN.{length, drop, length-set}
 use lib.Seq.{paste, paste-zero}
 use denote.Ref.{now}
 use Rattle.interface.specs.Message.{headWords}
-use Rattle.transfer.proofs.BlockLaws.{copied-more}
-use Rattle.transfer.proofs.copy_words.Statement.{statement}
-use Rattle.transfer.proofs.copy_words.Tie as tie
+use Rattle.blocks.proofs.BlockLaws.{copied-more}
+use Rattle.blocks.proofs.copy_words.Statement.{statement}
+use Rattle.blocks.proofs.copy_words.Tie as tie
 
 abbrev Inv-loop : tie.InvT-loop
 Inv-loop source target₀ untyped i₀ target i = (i ≤ untyped) × (headWords + untyped ≤ length source) × (headWords + untyped ≤ length target₀) × (length target ≡ length target₀) ×

@@ -1,9 +1,9 @@
 -- The part has as many words as the count says, and a block has them where its counts fit.
 use denote.Ref.{now}
 use borrow.Author.Needs.{needs}
-use Rattle.transfer.proofs.BlockLaws.{untyped-other-length, untyped-too-long, untyped-there, untyped-ends}
-use Rattle.transfer.proofs.untyped.Statement.{statement}
-use Rattle.transfer.proofs.untyped.Tie as tie
+use Rattle.blocks.proofs.BlockLaws.{untyped-other-length, untyped-too-long, untyped-there, untyped-ends}
+use Rattle.blocks.proofs.untyped.Statement.{statement}
+use Rattle.blocks.proofs.untyped.Tie as tie
 
 sub-result : tie.Need-sub-result
 sub-result c = search needs

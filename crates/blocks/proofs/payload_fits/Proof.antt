@@ -1,8 +1,8 @@
 -- The counts are the definition's.
 use borrow.Author.Needs.{needs}
-use Rattle.transfer.proofs.BlockLaws.{fits-counts}
-use Rattle.transfer.proofs.payload_fits.Statement.{statement}
-use Rattle.transfer.proofs.payload_fits.Tie as tie
+use Rattle.blocks.proofs.BlockLaws.{fits-counts}
+use Rattle.blocks.proofs.payload_fits.Statement.{statement}
+use Rattle.blocks.proofs.payload_fits.Tie as tie
 
 untyped-count-requires : tie.Need-untyped-count-requires
 untyped-count-requires c κs = search needs
