@@ -76,5 +76,5 @@ pub fn census(place: u32, places: &[u32], objects: &[u32], list: &mut [u32]) -> 
 pub fn untyped(block: &[u32]) -> &[u32]
     ensures { λ r. ⌜ now r ≡ untypedPart (now (block .entry)) ⌝ }
 {
-    transfer::untyped(block)
+    blocks::untyped(block)
 }

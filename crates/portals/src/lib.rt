@@ -44,7 +44,7 @@ pub fn call(
     {
         return Reply::BadCpu;
     }
-    if !transfer::payload_fits(source[0]) {
+    if !blocks::payload_fits(source[0]) {
         return Reply::BadPar;
     }
     let receiver = objects::load(objects, callee, objects::DOMAIN);

@@ -1,4 +1,4 @@
--- Laws of one typed item: the ranges that the receiver is shown are proper, and what each way out of the code says of the definition.
+-- Laws of one typed item: the domain that it is delegated from, and what each way out of the code says of the definition.
 use Prim.Native.Nat.{ℕ, zero, suc, _+_, _%_, _^_, _≤_, _<_, min}
 use mathlib.Core.Path.{_≡_, refl, sym, subst, _∙_}
 use mathlib.Core.Bool.{true, false, _&&_}
@@ -29,10 +29,11 @@ use Rattle.interface.specs.Message.{receivedWord, delegateBit, hypervisorBit, h
 use Rattle.interface.proofs.Basics.BoolLaws.{cases}
 use Rattle.places.specs.Table.{Sized}
 use Rattle.tree.specs.Walks.{placesOnly}
+use Rattle.windows.specs.Matching.{Matched, destinationOf}
+use Rattle.delegation.specs.Delegating.{Taken}
+use Rattle.delegation.proofs.DelegateLaws.{filled-few, running-none, running-taken}
 use Rattle.transfer.specs.declared.Outcome.{Outcome}
-use Rattle.transfer.specs.Typed.{Matched, Taken, destinationOf, itemBy, Done}
-use Rattle.transfer.proofs.DelegateLaws.{filled-few, running-none, running-taken}
-use Rattle.transfer.proofs.TranslateLaws.{shown-aligned, shown-ends}
+use Rattle.transfer.specs.Typed.{itemBy, Done}
 
 -- the domain that an item is delegated from
 module _ (sender second : ℕ) where
@@ -43,73 +44,6 @@ module _ (sender second : ℕ) where
   pub source-own : (eqb (hypervisorBit second) 1 && eqb sender root) ≡ false → sender ≡ sourceDomain sender second
   unfolding sourceDomain
   source-own f = rw f
-
--- a matched window ends in the item's space
-window-ends : (item window : Range) → Matched item window → window .base + 2 ^ window .order ≤ selectors (item .space)
-window-ends item window m = rw (sym (m .same-space)) at (m .window-proper .ends-inside)
-
--- the destination of a delegation, as the code makes it
-pub is-destination : (hotspot : ℕ) (item window : Range) {item-order window-order order at selected space mask : ℕ} {range : Range} → item-order ≡ item .order →
-    window-order ≡ window .order → order ≡ min item-order window-order → (at ≡ rounded order (hotspot % 2 ^ window-order)) × (at + 2 ^ order ≤ 2 ^ window-order) →
-    (selected ≡ window .base + at) × (selected < selectors (window .space)) → space ≡ item .space → mask ≡ item .mask →
-    range ≡ record { space = space; base = selected; order = order; mask = mask } → range ≡ destinationOf hotspot item window
-is-destination hotspot item window io wo o a s sp m r = rw (sp, s .0, a .0, o, io, wo, m) at r
-
--- it is a proper range
-pub destination-proper : (hotspot : ℕ) (item window : Range) → Matched item window → Proper (destinationOf hotspot item window)
-destination-proper hotspot item window m =
-    let o = smallerOrder item window in
-    let within = ends-inside (window .order) o hotspot (window .base) (omega arith) in
-    record {
-      space-small = m .item-proper .space-small;
-      order-small = omega (arith, m .item-proper .order-small);
-      base-aligned = keeps-aligned (window .order) o hotspot (window .base) (omega arith) (m .window-proper .base-aligned);
-      ends-inside = omega (arith, window-ends item window m);
-      mask-small = m .item-proper .mask-small;
-    }
-
--- what places have in common of a mask is no more than the mask
-common-le : (mask n : ℕ) (caps : ℕ → Cap) → common mask n caps ≤ mask
-unfolding common
-common-le mask zero caps = omega arith
-common-le mask (suc n) caps = omega (arith, common-le mask n caps, and-le-l (common mask n caps) (caps n .permissions))
-
--- a range that a translated item shows is proper
-pub translated-proper : (table : List ℕ) (sender receiver : ℕ) (item window : Range) → Matched item window → {received : Received} →
-    received ≡ translateItem (placesOnly table) sender receiver (Both item window) .received → (range : Range) → received ≡ Shows range → Proper range
-unfolding translateItem
-translated-proper table sender receiver item window m e range shows =
-    let caps = capAt table in
-    let held : ℕ → Cap = λ i. caps (senderPlace sender item i) in
-    let shown : Range =
-    record {
-      space = item .space;
-      base = translatedBase caps sender receiver item;
-      order = item .order;
-      mask = common (item .mask) (2 ^ item .order) held;
-    } in
-    cases (translates caps sender receiver item window)
-    (λ (t : translates caps sender receiver item window ≡ true).
-    let ends = shown-ends caps sender receiver item window t in
-    let same-received : Shows shown ≡ Shows range = sym (rw t at e) ∙ shows in
-    let same : shown ≡ range = cc in
-    subst Proper same
-    (record {
-      space-small = m .item-proper .space-small;
-      order-small = m .item-proper .order-small;
-      base-aligned = shown-aligned caps sender receiver item window t;
-      ends-inside = omega (arith, window-ends item window m);
-      mask-small = omega (arith, m .item-proper .mask-small, common-le (item .mask) (2 ^ item .order) held);
-    }))
-    (λ (f : translates caps sender receiver item window ≡ false).
-    let none : NullItem TranslationBroke ≡ Shows range = sym (rw f at e) ∙ shows in
-    let never : _≡_ {A = ℕ} 0 1 = cc in absurd (omega arith))
-
--- a range that is made of another's parts is proper with it
-pub made-proper : (range : Range) {space selected order mask : ℕ} → Proper range → space ≡ range .space →
-    (selected ≡ range .base + 0) × (selected < selectors (range .space)) → order ≡ range .order → mask ≡ range .mask →
-    Proper (record { space = space; base = selected; order = order; mask = mask })
-made-proper range p sp s o m = rw (sp, s .0, add-zero (range .base), o, m) p
 
 -- no steps
 taken-none : {table : List ℕ} → Sized table → Taken table table [] 0
@@ -148,19 +82,6 @@ module _ (sender receiver second : ℕ) (item window : Range) {before after : Li
         taken = taken-there;
         few = rw (taken-there .fills) (delegations-few (sourceDomain sender second) receiver (hotspotField second) item window (placesOnly before) pair);
       }
-
--- two descriptors that are read as they were kept
-pub is-match : (descriptor window : ℕ) {item-kept window-kept : ℕ} {item-read window-read : Reading} {match : Match} → item-kept ≡ kept descriptor →
-    item-read ≡ reading item-kept → window-kept ≡ kept window → window-read ≡ reading window-kept → match ≡ matched item-read window-read →
-    match ≡ matched (reading descriptor) (reading window)
-is-match descriptor window ik ir wk wr m = m ∙ rw (ir, wr, ik, wk, reading-kept descriptor, reading-kept window)
-
--- what is matched are proper ranges of one space
-pub is-matched : (descriptor word : ℕ) {match : Match} (item window : Range) → match ≡ matched (reading descriptor) (reading word) → match ≡ Both item window →
-    Matched item window
-is-matched descriptor word item window m e =
-    let good = matched-good (reading descriptor) (reading word) item window (sym m ∙ e) in
-    record { item-proper = good-proper descriptor item (good .0); window-proper = good-proper word window (good .1); same-space = good .2 }
 
 -- an item, by what its descriptors are read as
 module _ (table : List ℕ) (sender receiver descriptor second translating delegating : ℕ) where

@@ -1,8 +1,4 @@
--- What is proved of the message block's definitions.
-pub mod BlockLaws
-pub mod LiveLinkLaws
-pub mod DelegateLaws
-pub mod TranslateLaws
+-- What is proved of one typed item, of the items in turn and of a message.
 pub mod ItemLaws
 pub mod MovedLaws
 pub mod UnseenLaws

@@ -17,10 +17,12 @@ use Rattle.interface.proofs.Tables.TurnLaws.{run-append}
 use Rattle.places.specs.Table.{Sized}
 use Rattle.places.proofs.CapTableLaws.{length-cap-table, cap-table-back}
 use Rattle.tree.specs.Walks.{placesOnly}
+use Rattle.blocks.specs.Fitting.{Blocks}
+use Rattle.blocks.proofs.BlockLaws.{counts-fit, copied-length}
+use Rattle.delegation.specs.Delegating.{LiveLinks}
 use Rattle.transfer.specs.declared.Outcome.{Outcome}
-use Rattle.transfer.specs.Typed.{LiveLinks, itemBy, Done}
-use Rattle.transfer.specs.Turns.{Blocks, Ready, movedBy, Transferred}
-use Rattle.transfer.proofs.BlockLaws.{counts-fit, copied-length}
+use Rattle.transfer.specs.Typed.{itemBy, Done}
+use Rattle.transfer.specs.Turns.{Ready, movedBy, Transferred}
 
 -- where the items stand: the table, the count and the upper words after those before the present one
 pub record Moving (start : List ℕ) (sender receiver : ℕ) (source upper₀ : List ℕ) (typed translating delegating : ℕ) (table upper : List ℕ) (count i : ℕ) : Type 0 where

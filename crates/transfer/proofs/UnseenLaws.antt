@@ -14,8 +14,8 @@ use Rattle.interface.specs.Effects.{Effect, fills, act, run, filled}
 use Rattle.interface.specs.Message.{typedCount, translateWindow, delegateWindow, descriptorAt, secondAt, delegateBit, hotspotField, Item, sourceDomain, smallerOrder, raisedBase, delegateItem, translateItem, itemOf, carried, transfer}
 use Rattle.interface.proofs.Tables.TurnLaws.{run-append, gives}
 use Rattle.tree.specs.Walks.{placesOnly}
+use Rattle.delegation.proofs.DelegateLaws.{run-more, filled-more}
 use Rattle.transfer.specs.Turns.{Transferred}
-use Rattle.transfer.proofs.DelegateLaws.{run-more, filled-more}
 
 module _ (objects : ℕ → ℕ → ℕ) where
   -- a state with other objects

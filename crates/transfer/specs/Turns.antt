@@ -1,22 +1,16 @@
 -- Some typed items in turn, where the receiver's words above the untyped ones are a list by itself.
 use Prim.Native.Nat.{ℕ, zero, suc, _+_, _-_, _*_, _≤_, _<_}
 use mathlib.Core.Path.{_≡_}
-use mathlib.Core.Bool.{true}
 use mathlib.Core.List.{List, [], _++_}
 use lib.ListN.{length, set}
 use Rattle.words.specs.Sizes.{domains, blockWords}
 use Rattle.interface.specs.Basics.{word}
 use Rattle.interface.specs.Places.{State, capAt, capTable}
 use Rattle.interface.specs.Effects.{run, filled}
-use Rattle.interface.specs.Message.{payloadFits, payloadWords, itemWords, descriptorAt, secondAt, delegateBit, receivedWord, Moved}
+use Rattle.interface.specs.Message.{payloadWords, itemWords, descriptorAt, secondAt, delegateBit, receivedWord, Moved}
 use Rattle.tree.specs.Walks.{placesOnly}
-use Rattle.transfer.specs.Typed.{LiveLinks, itemBy}
-
--- two blocks of a message whose counts fit
-pub record Blocks (source target : List ℕ) : Type 0 where
-  pub source-length : length source ≡ blockWords
-  pub target-length : length target ≡ blockWords
-  pub fits : payloadFits (word source 0) ≡ true
+use Rattle.delegation.specs.Delegating.{LiveLinks}
+use Rattle.transfer.specs.Typed.{itemBy}
 
 -- what the items need of the blocks and the domains
 pub record Ready (sender receiver : ℕ) (source upper : List ℕ) (typed : ℕ) : Type 0 where

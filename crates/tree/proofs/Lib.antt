@@ -2,6 +2,6 @@
 pub mod WalkLaws
 pub mod LinkLaws
 pub mod MarkLaws
-pub mod RevocationLaws
+pub mod UnmarkedLaws
+pub mod StripLaws
 pub mod CensusLaws
-pub mod SpaceLaws

@@ -4,22 +4,23 @@ use mathlib.Core.Path.{_≡_, refl, sym, ap, _∙_}
 use mathlib.Core.Logic.{_≢_}
 use mathlib.Core.Bool.{Bool, true, false, _&&_, _||_}
 use mathlib.Core.List.{List}
-use native.Mathlib.Nat.{add-sub-cancel-left, add-zero, pow-zero, div-one, sub-self}
+use native.Mathlib.Nat.{add-sub-cancel-left, add-zero, pow-zero, div-one, sub-self, dvd-of-mod-eq-zero}
 use native.Mathlib.Numerals.{one-add}
 use native.Mathlib.Omega.{arith}
-use lib.Dec.{eqb}
-use lib.ListN.{length, set, length-set}
+use lib.Dec.{eqb, ltb}
+use lib.ListN.{length, set}
 use lib.Pow.{pow-mono, shr-shr}
-use lib.Seq.{getD-set-same, getD-set-other, ext-getD}
-use Rattle.words.specs.Sizes.{places}
+use borrow.Author.Tests.{ltb-true, ltb-false, lt-ltb, eqb-true, eq-eqb, ne-eqb}
+use lib.Seq.{getD-set-same, getD-set-other}
+use Rattle.words.specs.Sizes.{object, spaces, selectors, start, places, domainOf, spaceOf, selectorOf}
 use Rattle.words.specs.Permissions.{permits}
-use Rattle.interface.specs.Basics.{if_then_else_, word, listed}
+use Rattle.words.proofs.SizeLaws.{selectors-few}
+use Rattle.words.proofs.PlaceLaws.{made-so, space-small, selector-small, domain-small, run-space}
+use Rattle.interface.specs.Basics.{if_then_else_}
 use Rattle.interface.specs.Places.{Cap}
 use Rattle.interface.specs.Effects.{among, below}
 use Rattle.interface.proofs.Basics.BoolLaws.{cases}
-use Rattle.interface.proofs.Basics.BelowLaws.{below-suc}
-use Rattle.interface.proofs.Tables.TableLaws.{length-listed, word-listed}
-use Rattle.tree.specs.Walks.{cutAt, packed, marksOf, markAt, Marked}
+use Rattle.tree.specs.Walks.{cutAt, packed, wordBits, bitAt, allMarks, markOf, markWords, markedPlace, markAt, Marked}
 
 module _ (test : ℕ → Bool) where
   -- the bit that tells the answer for a place
@@ -57,47 +58,46 @@ module _ (test : ℕ → Bool) where
   packed-at : (n place i : ℕ) → i < n → permits i (packed test place n) ≡ test (place + i)
   packed-at n place i l = rw (add-sub-cancel-left i 1, bit-at n place i l) (bit-test (place + i))
 
-  -- the answer for a place is read back from its word
-  mark-read : (marks : List ℕ) (place : ℕ) → word marks (place / 32) ≡ packed test (place / 32 * 32) 32 → markAt marks place ≡ test place
-  mark-read marks place e =
-      let here : place / 32 * 32 + place % 32 ≡ place = omega arith in
-      rw e (packed-at 32 (place / 32 * 32) (place % 32) (omega arith) ∙ ap test here)
+  -- where it is no for each place, no bit is set
+  pub packed-blank : (n place : ℕ) → ((i : ℕ) → i < n → test (place + i) ≡ false) → packed test place n ≡ 0
+  packed-blank zero place none = packed-none place
+  packed-blank (suc n) place none =
+      let here : test place ≡ false = rw (add-zero place) at (none 0 (omega arith)) in
+      let others : packed test (place + 1) n ≡ 0 =
+      packed-blank n (place + 1) (λ i l. let next : place + 1 + i ≡ place + suc i = omega arith in rw next (none (suc i) (omega arith))) in
+      rw (packed-more place n, others, here)
 
-  -- and so for all places
-  pub mark-at : (place : ℕ) → place < places → markAt (marksOf test) place ≡ test place
-  mark-at place l = mark-read (marksOf test) place (word-listed (λ (number : ℕ). packed test (number * 32) 32) (places / 32) (place / 32) (omega arith))
-
-  -- behind the last of 32 places no bits are there
-  pub packed-start : (from : ℕ) → 0 ≡ packed test (from + 32) (32 - 32)
-  packed-start from = rw (sub-self 32) (sym (packed-none (from + 32)))
+  -- behind the last place of a word no bits are there
+  pub packed-start : (from : ℕ) → 0 ≡ packed test (from + wordBits) (wordBits - wordBits)
+  packed-start from = rw (sub-self wordBits) (sym (packed-none (from + wordBits)))
 
   -- a place further down, the bit of that place comes in below the others, and there is room for it
-  module _ (from offset : ℕ) {value : ℕ} (so-far : value ≡ packed test (from + offset) (32 - offset)) (more : 0 < offset) (inside : offset ≤ 32) where
-    pub packed-room : value * 2 + 1 < 2 ^ 32
+  module _ (from offset : ℕ) {value : ℕ} (so-far : value ≡ packed test (from + offset) (wordBits - offset)) (more : 0 < offset) (inside : offset ≤ wordBits) where
+    pub packed-room : value * 2 + 1 < 2 ^ wordBits
     packed-room =
-        let few : 32 - offset ≤ 31 = omega arith in
-        omega (arith, so-far, packed-small (32 - offset) (from + offset), pow-mono few)
+        let few : wordBits - offset ≤ 31 = omega arith in
+        omega (arith, so-far, packed-small (wordBits - offset) (from + offset), pow-mono few)
 
-    packed-next : value * 2 + bitOf (from + (offset - 1)) ≡ packed test (from + (offset - 1)) (32 - (offset - 1))
+    packed-next : value * 2 + bitOf (from + (offset - 1)) ≡ packed test (from + (offset - 1)) (wordBits - (offset - 1))
     packed-next =
-        let one-more : 32 - (offset - 1) ≡ suc (32 - offset) = omega arith in
+        let one-more : wordBits - (offset - 1) ≡ suc (wordBits - offset) = omega arith in
         let back : from + (offset - 1) + 1 ≡ from + offset = omega arith in
-        rw (one-more, packed-more (from + (offset - 1)) (32 - offset), back, so-far)
+        rw (one-more, packed-more (from + (offset - 1)) (wordBits - offset), back, so-far)
 
     module _ {answer : Bool} {place : ℕ} (is-place : place ≡ from + (offset - 1)) (told : answer ≡ test place) where
       told-there : answer ≡ test (from + (offset - 1))
       told-there = told ∙ ap test is-place
 
-      pub packed-marked : answer ≡ true → value * 2 + 1 ≡ packed test (from + (offset - 1)) (32 - (offset - 1))
+      pub packed-marked : answer ≡ true → value * 2 + 1 ≡ packed test (from + (offset - 1)) (wordBits - (offset - 1))
       packed-marked t = rw (sym told-there ∙ t) at packed-next
 
-      pub packed-unmarked : answer ≡ false → value * 2 ≡ packed test (from + (offset - 1)) (32 - (offset - 1))
+      pub packed-unmarked : answer ≡ false → value * 2 ≡ packed test (from + (offset - 1)) (wordBits - (offset - 1))
       packed-unmarked f = let none : bitOf (from + (offset - 1)) ≡ 0 = rw (sym told-there ∙ f) in omega (arith, packed-next)
 
   -- at the first place all bits are there
-  pub packed-all : (from offset : ℕ) {value : ℕ} → value ≡ packed test (from + offset) (32 - offset) → offset ≡ 0 → value ≡ packed test from 32
+  pub packed-all : (from offset : ℕ) {value : ℕ} → value ≡ packed test (from + offset) (wordBits - offset) → offset ≡ 0 → value ≡ packed test from wordBits
   packed-all from offset so-far all =
-      let whole : 32 - offset ≡ 32 = omega arith in let here : from + offset ≡ from = omega arith in so-far ∙ rw (whole, here)
+      let whole : wordBits - offset ≡ wordBits = omega arith in let here : from + offset ≡ from = omega arith in so-far ∙ rw (whole, here)
 
 -- whether a place loses permissions, by whether it is among the places and the answer of the walk from there
 pub cut-told : (caps : ℕ → Cap) (first size place : ℕ) (self : Bool) {inside answer : Bool} → inside ≡ among first size place →
@@ -113,40 +113,129 @@ above-told false false false = refl
 
 pub cut-marked : (caps : ℕ → Cap) (first size place above : ℕ) (self : Bool) (marks : List ℕ) {inside above-inside mark : Bool} →
     inside ≡ among first size place → above-inside ≡ among first size above →
-    below caps first size place ≡ (among first size above || below caps first size above) → mark ≡ markAt marks above →
-    markAt marks above ≡ cutAt caps first size self above → ((above-inside || mark) || (self && inside)) ≡ cutAt caps first size self place
-cut-marked caps first size place above self marks is-inside above-is-inside is-below is-mark told =
-    rw (is-inside, above-is-inside, is-below, is-mark, told)
+    below caps first size place ≡ (among first size above || below caps first size above) → mark ≡ bitAt marks (markOf above) →
+    spaceOf above ≡ spaceOf place → markAt (spaceOf place) marks above ≡ cutAt caps first size self above →
+    ((above-inside || mark) || (self && inside)) ≡ cutAt caps first size self place
+cut-marked caps first size place above self marks is-inside above-is-inside is-below is-mark same-space told =
+    let bit : bitAt marks (markOf above) ≡ cutAt caps first size self above = rw (eq-eqb (spaceOf above) (spaceOf place) same-space) at told in
+    rw (is-inside, above-is-inside, is-below, is-mark, bit)
     (ap (λ (t : Bool). t || (self && among first size place)) (above-told (among first size above) (below caps first size above) self))
 
--- a list whose words below a number are those of a function
-pub record Stored (f : ℕ → ℕ) (size number : ℕ) (list : List ℕ) : Type 0 where
-  pub as-long : length list ≡ size
-  pub so-far : (n : ℕ) → n < number → word list n ≡ f n
+-- a space begins at a word's first place
+start-whole : (space : ℕ) → space < spaces → start space % wordBits ≡ 0
+start-whole zero l = refl
+start-whole (suc zero) l = refl
+start-whole (suc (suc zero)) l = refl
+start-whole (suc (suc (suc space))) l = absurd (omega arith)
 
-pub stored-none : (f : ℕ → ℕ) (list : List ℕ) → Stored f (length list) 0 list
-stored-none f list = record { as-long = refl; so-far = λ n l. absurd (omega arith) }
+-- the places of a word of marks are of one space
+pub word-space : (from i : ℕ) → from % wordBits ≡ 0 → i < wordBits → spaceOf (from + i) ≡ spaceOf from
+word-space from i whole l =
+    run-space wordBits from i (dvd-of-mod-eq-zero wordBits refl) (dvd-of-mod-eq-zero wordBits refl) (dvd-of-mod-eq-zero wordBits whole) l
 
-module _ {f : ℕ → ℕ} {size number : ℕ} {list : List ℕ} (stored : Stored f size number list) where
-  pub stored-more : (value : ℕ) → number < size → value ≡ f number → Stored f size (number + 1) (set list number value)
-  stored-more value l e =
-      let long : number < length list = omega (arith, stored .as-long) in
+-- no space has a selector past those that its marks are for
+selector-few : (place : ℕ) → selectorOf place < selectors object
+selector-few place = omega (arith, selector-small place, selectors-few (spaceOf place))
+
+-- a place has its mark among those of its space, and among their words
+pub mark-below : (place : ℕ) → place < places → markOf place < allMarks
+mark-below place l = omega (arith, selector-few place, domain-small place l)
+
+pub mark-small : (place : ℕ) → place < places → markOf place / wordBits < markWords
+mark-small place l = omega (arith, mark-below place l)
+
+-- the place of a place's mark is that place, and its space has it
+pub mark-place : (place space : ℕ) → spaceOf place ≡ space → markedPlace space (markOf place) ≡ place
+mark-place place space same =
+    let few = selector-few place in
+    let domain : markOf place / selectors object ≡ domainOf place = omega arith in
+    let selector : markOf place % selectors object ≡ selectorOf place = omega arith in
+    rw (domain, selector, ← same) (made-so place)
+
+pub mark-inside : (place space : ℕ) → spaceOf place ≡ space → ltb (markOf place % selectors object) (selectors space) ≡ true
+mark-inside place space same =
+    let few = selector-few place in
+    let selector : markOf place % selectors object ≡ selectorOf place = omega arith in
+    rw (selector, ← same) (lt-ltb (selectorOf place) (selectors (spaceOf place)) (selector-small place))
+
+-- the marks of a space rise with its places
+mark-rises : (p q : ℕ) → p < q → spaceOf p ≡ spaceOf q → markOf p < markOf q
+mark-rises p q l same =
+    let p-made = made-so p in
+    let q-made = made-so q in
+    let p-small = selector-few p in
+    let q-small = selector-few q in
+    let starts : start (spaceOf p) ≡ start (spaceOf q) = ap start same in
+    cases (ltb (domainOf p) (domainOf q)) (λ (t : ltb (domainOf p) (domainOf q) ≡ true). let less = ltb-true (domainOf p) (domainOf q) t in omega arith)
+    (λ (f : ltb (domainOf p) (domainOf q) ≡ false). let more = ltb-false (domainOf p) (domainOf q) f in omega arith)
+
+-- a word's first mark, and the others after it
+module _ (from : ℕ) (whole : from % wordBits ≡ 0) where
+  mark-whole : markOf from % wordBits ≡ 0
+  mark-whole =
+      let made = made-so from in
+      let starts = start-whole (spaceOf from) (space-small from) in
+      omega arith
+
+  mark-after : (i : ℕ) → i < wordBits → markOf (from + i) ≡ markOf from + i
+  mark-after i l =
+      let starts : start (spaceOf (from + i)) ≡ start (spaceOf from) = ap start (word-space from i whole l) in
+      let made = made-so from in
+      let made-after = made-so (from + i) in
+      let small = selector-few (from + i) in
+      omega arith
+
+  -- where a mark stands
+  mark-bit : (i : ℕ) → i < wordBits → markOf (from + i) % wordBits ≡ i
+  mark-bit i l = omega (arith, mark-whole, mark-after i l)
+
+  mark-word : (i : ℕ) → i < wordBits → markOf (from + i) / wordBits ≡ markOf from / wordBits
+  mark-word i l = omega (arith, mark-whole, mark-after i l)
+
+  -- a mark of the same space before those of the word is in another word
+  mark-before : (p : ℕ) → p < from → spaceOf p ≡ spaceOf from → markOf p / wordBits ≢ markOf from / wordBits
+  mark-before p l same e = absurd (omega (arith, mark-whole, mark-rises p from l same))
+
+-- a place before the end of a word is before the word or in it
+word-cases : {C : Type 0} (p from : ℕ) → p < from + wordBits → (p < from → C) → ((i : ℕ) → i < wordBits → p ≡ from + i → C) → C
+word-cases p from l before here =
+    cases (ltb p from) (λ (t : ltb p from ≡ true). before (ltb-true p from t))
+    (λ (f : ltb p from ≡ false). let later = ltb-false p from f in here (p - from) (omega arith) (omega arith))
+
+-- before the first place nothing is to be told
+pub marked-none : (test : ℕ → Bool) (space : ℕ) (marks : List ℕ) → Marked test 0 space marks
+marked-none test space marks = record { told = λ place l. absurd (omega arith) }
+
+pub marked-in : {test : ℕ → Bool} {number space here : ℕ} {marks : List ℕ} → here ≡ space → Marked test number space marks → Marked test number here marks
+marked-in e marked = rw e marked
+
+-- a word more of marks, of the space or of another
+module _ {test : ℕ → Bool} {from space : ℕ} {marks : List ℕ} (whole : from % wordBits ≡ 0) (marked : Marked test from space marks) where
+  pub marked-more : (value : ℕ) → markOf from / wordBits < length marks → spaceOf from ≡ space → value ≡ packed test from wordBits →
+      Marked test (from + wordBits) space (set marks (markOf from / wordBits) value)
+  marked-more value fits inside is-value =
+      let at = markOf from / wordBits in
+      let after = set marks at value in
+      let here : (i : ℕ) → i < wordBits → markAt space after (from + i) ≡ test (from + i) =
+      λ i l.
+      rw (eq-eqb (spaceOf (from + i)) space (word-space from i whole l ∙ inside), mark-bit from whole i l, mark-word from whole i l)
+      (rw (getD-set-same marks at value 0 fits, is-value) (packed-at test wordBits from i l)) in
+      let before : (p : ℕ) → p < from → markAt space after p ≡ test p =
+      λ p l.
+      cases (eqb (spaceOf p) space)
+      (λ (t : eqb (spaceOf p) space ≡ true).
+      let other = mark-before from whole p l (eqb-true (spaceOf p) space t ∙ sym inside) in
+      rw (getD-set-other marks at (markOf p / wordBits) value 0 other) (marked .told p l))
+      (λ (f : eqb (spaceOf p) space ≡ false). rw f (rw f at (marked .told p l))) in
+      record { told = λ p l. word-cases p from l (before p) (λ i b e. rw e (here i b)) }
+
+  pub marked-other : (spaceOf from ≡ space → ⊥) → ((p : ℕ) → p < from + wordBits → (spaceOf p ≡ space → ⊥) → test p ≡ false) → Marked test (from + wordBits) space marks
+  marked-other outside none =
       record {
-        as-long = length-set list number value ∙ stored .as-long;
-        so-far =
-            λ n b.
-            below-suc n number (omega arith)
-            (λ (c : n < number). let other : n ≢ number = omega arith in getD-set-other list number n value 0 other ∙ stored .so-far n c)
-            (λ (same : n ≡ number). rw same (getD-set-same list number value 0 long ∙ e));
+        told =
+            λ p l.
+            word-cases p from l (marked .told p)
+            (λ i b e.
+            let away : spaceOf p ≡ space → ⊥ = λ (same : spaceOf p ≡ space). outside (sym (word-space from i whole b) ∙ rw e at same) in
+            rw (ne-eqb (spaceOf p) space away) (sym (none p l away)));
       }
-
-  pub stored-all : number ≡ size → list ≡ listed size f
-  stored-all all =
-      ext-getD 0 list (listed size f) (stored .as-long ∙ sym (length-listed f size))
-      (λ n l.
-      let small : n < size = rw (stored .as-long) at l in
-      stored .so-far n (rw all small) ∙ sym (word-listed f size n small))
-
--- words that were stored up to a number tell of the places before theirs
-pub stored-marked : (test : ℕ → Bool) (size number : ℕ) (list : List ℕ) → Stored (λ n. packed test (n * 32) 32) size number list → Marked test (number * 32) list
-stored-marked test size number list stored = record { told = λ place l. mark-read test list place (stored .so-far (place / 32) (omega arith)) }

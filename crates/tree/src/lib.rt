@@ -3,19 +3,28 @@ ghost use mathlib.Core.Path.{_≡_};
 ghost use Prim.Native.Nat.{_+_, _%_, _<_, _≤_};
 ghost use mathlib.Core.List.{_∷_, _++_};
 ghost use lib.ListN.{length, drop};
-ghost use Rattle.words.specs.Sizes.{places};
+ghost use Rattle.words.specs.Sizes.{spaces, places, spaceOf};
 ghost use Rattle.interface.specs.Basics.{put};
 ghost use Rattle.interface.specs.Places.{capAt, capTable};
 ghost use Rattle.interface.specs.Effects.{ancestors, below, stripped, cutCaps};
 ghost use Rattle.interface.specs.Census.{descendants, counted};
 ghost use Rattle.places.specs.Table.{Sized};
-ghost use Rattle.tree.specs.Walks.{Linked, InSpace, Stepped, firstAmong, cutAt, packed, marksOf, markAt, Marked, placesOnly};
+ghost use Rattle.tree.specs.Walks.{Linked, InSpace, Stepped, firstAmong, cutAt, wordBits, packed, allMarks, markOf, bitAt, Marked, Marking, meets, parentlessFrom, placesOnly};
 use descriptor::Cap;
 use descriptor::FoundPlace;
 use descriptor::Place;
 use descriptor::Reply;
+use descriptor::Selector;
 use words::permissions;
 use words::sizes;
+
+// The bits of a word.
+const WORD_BITS: u32 = 32;
+
+// The marks of a space, in each domain as many as the object space has selectors, and their words.
+const MARKS: u32 = sizes::DOMAINS * sizes::OBJECTS;
+
+const MARK_WORDS: usize = (MARKS / WORD_BITS) as usize;
 
 // The nearest strict ancestor of a place among as many places as `size` says from `first` on: its link word, or 0 where there is none. The walk goes to the parent, whose
 // depth is one less.
@@ -41,26 +50,35 @@ pub fn is_below(table: &[u32], place: Place, first: Place, size: u32) -> bool
     ancestor(table, place, first, size) != 0
 }
 
-// Whether a place is marked.
-fn is_marked(marked: &[u32; 48], place: Place) -> bool
+// The number of a place's mark among those of its space.
+fn mark_of(place: Place) -> u32
     requires { ⌜ place .0 < places ⌝ }
-    ensures { λ r. ⌜ r ≡ markAt (now (marked .entry)) (place .0) ⌝ }
+    ensures { λ r. ⌜ r ≡ markOf (place .0) ⌝ }
 {
-    let number = place.number();
-    permissions::has(number % 32, marked[(number / 32) as usize])
+    place.domain() * sizes::OBJECTS + place.selector().number()
 }
 
-// Whether a place loses permissions, where those places before `walked` that do are marked: a parent among these tells of its child, and from any other place the walk does.
+// Whether a place of the space whose marks these are is marked.
+fn is_marked(marked: &[u32; MARK_WORDS], place: Place) -> bool
+    requires { ⌜ place .0 < places ⌝ }
+    ensures { λ r. ⌜ r ≡ bitAt (now (marked .entry)) (markOf (place .0)) ⌝ }
+{
+    let number = mark_of(place);
+    permissions::has(number % WORD_BITS, marked[(number / WORD_BITS) as usize])
+}
+
+// Whether a place loses permissions, where those places of its space before `walked` that do are marked: a parent among these tells of its child, and from any other place the
+// walk does.
 fn is_cut(
     table: &[u32],
-    marked: &[u32; 48],
+    marked: &[u32; MARK_WORDS],
     walked: Place,
     place: Place,
     first: Place,
     size: u32,
     self_too: bool,
 ) -> bool
-    requires { ⌜ Sized (now table) × Linked (capAt (now table)) × (place .0 < places) × (first .0 + size ≤ places) × Marked (cutAt (capAt (now table)) (first .0) size «self_too») (walked .0) (now marked) ⌝ }
+    requires { ⌜ Marking (now table) (first .0) size «self_too» (walked .0) (spaceOf (place .0)) (now marked) × (place .0 < places) ⌝ }
     ensures { λ r. ⌜ r ≡ cutAt (capAt (now (table .entry))) (first .0) size «self_too» (place .0) ⌝ }
 {
     let among = place.is_among(first, size);
@@ -76,23 +94,50 @@ fn is_cut(
     below | (self_too & among)
 }
 
-// Which of the 32 places from one on lose permissions, a bit for each: the lowest is that of the first. They are walked from the last on, and those before them are marked.
+// Whether the places of a word of marks from one on have no parents. All are looked at, which is quicker than to stop at the first that has one.
+fn are_parentless(table: &[u32], from: Place) -> bool
+    requires { ⌜ Sized (now table) × (from .0 + wordBits ≤ places) ⌝ }
+    ensures { λ r. ⌜ r ≡ parentlessFrom (capAt (now (table .entry))) (from .0) wordBits ⌝ }
+{
+    let mut parentless = true;
+    let mut offset = 0u32;
+    while offset < WORD_BITS {
+        let cap = places::load(table, from.after(offset));
+        parentless = parentless & (cap.parent == 0);
+        offset += 1;
+    }
+    parentless
+}
+
+// Whether a range meets the places of a word of marks from one on.
+fn range_meets(first: Place, size: u32, from: Place) -> bool
+    requires { ⌜ (first .0 + size ≤ places) × (from .0 + wordBits ≤ places) ⌝ }
+    ensures { λ r. ⌜ r ≡ meets (first .0) size (from .0) ⌝ }
+{
+    let start = first.number();
+    let word_start = from.number();
+    (start < word_start + WORD_BITS) & (word_start < start + size)
+}
+
+// Which of the places of a word of marks from one on lose permissions, a bit for each: the lowest is that of the first. Where none has a parent and none is asked for itself, none
+// does. Otherwise they are walked from the last on, and those before them are marked.
 fn mark_word(
     table: &[u32],
-    marked: &[u32; 48],
+    marked: &[u32; MARK_WORDS],
     from: Place,
     first: Place,
     size: u32,
     self_too: bool,
 ) -> u32
-    requires { ⌜ Sized (now table) × Linked (capAt (now table)) × (from .0 % 32 ≡ 0) × (from .0 + 32 ≤ places) × InSpace (first .0) size × Marked (cutAt (capAt (now table)) (first .0) size «self_too») (from .0) (now marked) ⌝ }
-    ensures { λ r. ⌜ r ≡ packed (cutAt (capAt (now (table .entry))) (first .0) size «self_too») (from .0) 32 ⌝ }
+    requires { ⌜ Marking (now table) (first .0) size «self_too» (from .0) (spaceOf (from .0)) (now marked) × (from .0 % wordBits ≡ 0) × (from .0 + wordBits ≤ places) ⌝ }
+    ensures { λ r. ⌜ r ≡ packed (cutAt (capAt (now (table .entry))) (first .0) size «self_too») (from .0) wordBits ⌝ }
 {
-    if from.space() != first.space() {
+    let asked = self_too & range_meets(first, size, from);
+    if !asked & are_parentless(table, from) {
         return 0;
     }
     let mut word = 0u32;
-    let mut offset = 32u32;
+    let mut offset = WORD_BITS;
     while 0 < offset {
         offset -= 1;
         word *= 2;
@@ -111,18 +156,21 @@ fn mark_word(
     word
 }
 
-// Which places lose permissions, a bit for each in 48 words: found on the table as it is, before any is stripped.
-fn marks(table: &[u32], first: Place, size: u32, self_too: bool) -> [u32; 48]
+// Which places of the range's space lose permissions, a bit for each: found on the table as it is, before any is stripped.
+fn marks(table: &[u32], first: Place, size: u32, self_too: bool) -> [u32; MARK_WORDS]
     requires { ⌜ Sized (now table) × Linked (capAt (now table)) × InSpace (first .0) size ⌝ }
-    ensures { λ r. ⌜ r ≡ marksOf (cutAt (capAt (now (table .entry))) (first .0) size «self_too») ⌝ }
+    ensures { λ r. ⌜ Marked (cutAt (capAt (now (table .entry))) (first .0) size «self_too») places (spaceOf (first .0)) r ⌝ }
 {
-    let mut marked = [0u32; 48];
+    let space = first.space();
+    let mut marked = [0u32; MARK_WORDS];
     let mut walked = 0u32;
-    while walked < 48 {
-        let from = Place::counted(walked * 32);
-        let word = mark_word(table, &marked, from, first, size, self_too);
-        marked[walked as usize] = word;
-        walked += 1;
+    while walked < sizes::PLACES {
+        let from = Place::counted(walked);
+        walked += WORD_BITS;
+        if from.space() == space {
+            let word = mark_word(table, &marked, from, first, size, self_too);
+            marked[(mark_of(from) / WORD_BITS) as usize] = word;
+        }
     }
     marked
 }
@@ -132,23 +180,34 @@ pub fn cut(table: &mut [u32], mask: u32, first: Place, size: u32, self_too: bool
     requires { ⌜ Sized (now table) × Linked (capAt (now table)) × InSpace (first .0) size ⌝ }
     ensures { λ r. ⌜ now (table .exit) ≡ capTable (cutCaps mask (first .0) size «self_too» (capAt (now (table .entry)))) ⌝ }
 {
+    let space = first.space();
     let marked = marks(table, first, size, self_too);
     let mut number = 0u32;
-    while number < sizes::PLACES {
-        number = strip_next(table, &marked, mask, number);
+    while number < MARKS {
+        number = strip_next(table, &marked, mask, space, number);
     }
 }
 
-// Removes a mask's permissions from the place that the count has come to if it is marked. Answers the next count: past all those of a word without a mark.
-fn strip_next(table: &mut [u32], marked: &[u32; 48], mask: u32, number: u32) -> u32
-    requires { ⌜ Sized (now table) × (number < places) ⌝ }
-    ensures { λ r. ⌜ Stepped (now (table .entry)) (now (marked .entry)) mask number (now (table .exit)) r ⌝ }
+// Removes a mask's permissions from the place of the mark that the count has come to, if it is set and the space has that place. Answers the next count: past all marks of a word
+// that has none set.
+fn strip_next(
+    table: &mut [u32],
+    marked: &[u32; MARK_WORDS],
+    mask: u32,
+    space: u32,
+    number: u32,
+) -> u32
+    requires { ⌜ Sized (now table) × (space < spaces) × (number < allMarks) ⌝ }
+    ensures { λ r. ⌜ Stepped (now (table .entry)) (now (marked .entry)) mask space number (now (table .exit)) r ⌝ }
 {
-    if (number % 32 == 0) & (marked[(number / 32) as usize] == 0) {
-        return number + 32;
+    let word = marked[(number / WORD_BITS) as usize];
+    if (number % WORD_BITS == 0) & (word == 0) {
+        return number + WORD_BITS;
     }
-    let place = Place::counted(number);
-    if is_marked(marked, place) {
+    let selector = Selector::wrapped(number);
+    let known = selector.number() < sizes::selectors(space);
+    if permissions::has(number % WORD_BITS, word) & known {
+        let place = Place::of(number / sizes::OBJECTS, space, selector);
         strip(table, place, mask);
         return number + 1;
     }

@@ -11,7 +11,7 @@ use Rattle.interface.specs.Basics.{word}
 use Rattle.interface.specs.Places.{Cap, PT, ecWord, cpuWord, callBit, permitted, objectAt, view}
 use Rattle.interface.specs.Message.{payloadFits}
 use Rattle.capabilities.proofs.CallerLaws.{sized-places, sized-objects, called-sound, caller-small}
-use Rattle.transfer.proofs.LiveLinkLaws.{sound-live}
+use Rattle.delegation.proofs.LiveLinkLaws.{sound-live}
 use Rattle.portals.proofs.PortalLaws.{Lengths, Permitted, source-other, target-other, not-permitted, portal-record, callee-small, receiver-small, calls-itself, other-cpu, too-long, carries}
 use Rattle.portals.proofs.call.Statement.{statement}
 use Rattle.portals.proofs.call.Tie as tie

@@ -1,7 +1,8 @@
 -- The item is null where no place was filled, and shows the destination otherwise.
 use native.Mathlib.Omega.{arith}
 use borrow.Author.Needs.{needs}
-use Rattle.transfer.proofs.ItemLaws.{destination-proper, delegated-none, delegated-some}
+use Rattle.windows.proofs.WindowLaws.{destination-proper}
+use Rattle.transfer.proofs.ItemLaws.{delegated-none, delegated-some}
 use Rattle.transfer.proofs.delegate_item.Statement.{statement}
 use Rattle.transfer.proofs.delegate_item.Tie as tie
 

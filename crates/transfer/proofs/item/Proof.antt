@@ -1,7 +1,9 @@
 -- The item is delegated or translated as its second word says, and null where its descriptors do not match.
 use denote.Ref.{now}
 use borrow.Author.Needs.{needs}
-use Rattle.transfer.proofs.ItemLaws.{translated-proper, is-matched, delegated-null, delegated-both, translated-null, translated-both}
+use Rattle.windows.proofs.WindowLaws.{is-matched}
+use Rattle.translation.proofs.ShownLaws.{translated-proper}
+use Rattle.transfer.proofs.ItemLaws.{delegated-null, delegated-both, translated-null, translated-both}
 use Rattle.transfer.proofs.item.Statement.{statement}
 use Rattle.transfer.proofs.item.Tie as tie
 

@@ -4,15 +4,15 @@ use denote.Ref.{now}
 use borrow.Author.Needs.{needs}
 use borrow.Author.Tests.{ltb-true}
 use Rattle.tree.proofs.MarkLaws.{cut-told, cut-marked}
-use Rattle.tree.proofs.WalkLaws.{parent-small, rootless-cut, walk-below}
+use Rattle.tree.proofs.WalkLaws.{parent-small, parent-beside, rootless-cut, walk-below}
 use Rattle.tree.proofs.is_cut.Statement.{statement}
 use Rattle.tree.proofs.is_cut.Tie as tie
 
 is-among-requires : tie.Need-is-among-requires
-is-among-requires c κs = search needs
+is-among-requires c κs = c .before .pre .0 .ends
 
 load-requires : tie.Need-load-requires
-load-requires c κs = search needs
+load-requires c κs = let start = c .before .before in (start .pre .0 .sized, start .pre .1)
 
 linked-requires : tie.Need-linked-requires
 linked-requires c κs = search needs
@@ -28,21 +28,21 @@ returns c =
     let found = c .before .before in
     let loaded = found .before in
     let start = loaded .before .before .before in
-    rootless-cut (start .pre .1) (start .pre .2) (loaded .load .ensures) (found .linked .ensures) _ _ (start .args .self-too)
+    rootless-cut (start .pre .0 .links) (start .pre .1) (loaded .load .ensures) (found .linked .ensures) _ _ (start .args .self-too)
     (loaded .before .is-among .ensures) (c .enum-told .given .1)
 
 is-before-requires : tie.Need-is-before-requires
 is-before-requires c κs = search needs
 
 is-among-requires-2 : tie.Need-is-among-requires-2
-is-among-requires-2 c κs = search needs
+is-among-requires-2 c κs = c .before .before .before .before .before .before .before .before .before .pre .0 .ends
 
 is-marked-requires : tie.Need-is-marked-requires
 is-marked-requires c κs =
     let leads = c .before .before .before .before in
     let found = leads .before .before in
     let start = found .before .before .before .before in
-    parent-small (start .pre .1) (start .pre .2) (found .before .load .ensures) (found .linked .ensures) (leads .above .given .1)
+    parent-small (start .pre .0 .links) (start .pre .1) (found .before .load .ensures) (found .linked .ensures) (leads .above .given .1)
 
 returns-2 : tie.Need-returns-2
 returns-2 c =
@@ -52,11 +52,14 @@ returns-2 c =
     let loaded = found .before in
     let start = loaded .before .before .before in
     cut-marked _ _ _ _ _ (start .args .self-too) (now (start .args .marked)) (loaded .before .is-among .ensures) (c .before .is-among2 .ensures)
-    (walk-below (start .pre .1) (start .pre .2) (loaded .load .ensures) (found .linked .ensures) (leads .above .given .1) _ _) (c .is-marked .ensures)
-    (start .pre .4 .told _ (ltb-true _ _ (sym (compared .is-before .ensures) ∙ c .before .before .if1 .taken)))
+    (walk-below (start .pre .0 .links) (start .pre .1) (loaded .load .ensures) (found .linked .ensures) (leads .above .given .1) _ _) (c .is-marked .ensures)
+    (parent-beside (start .pre .0 .links) (start .pre .1) (loaded .load .ensures) (found .linked .ensures) (leads .above .given .1))
+    (start .pre .0 .marked .told _ (ltb-true _ _ (sym (compared .is-before .ensures) ∙ c .before .before .if1 .taken)))
 
 is-below-requires : tie.Need-is-below-requires
-is-below-requires c κs = search needs
+is-below-requires c κs =
+    let start = c .before .before .before .before .before .before .before .before .before in
+    (start .pre .0 .sized, start .pre .0 .links, start .pre .1, start .pre .0 .ends)
 
 returns-3 : tie.Need-returns-3
 returns-3 c =

@@ -1,33 +1,34 @@
--- In another space no bit is set. In the range's, the word holds the bits of the places from the loop's on.
+-- Places without parents that self does not ask for have no bit set. Otherwise the word holds the bits of the places from the loop's on.
 use Prim.Native.Nat.{_+_, _-_, _≤_}
 use mathlib.Core.Path.{_≡_}
 use native.Mathlib.Omega.{arith}
+use denote.Ref.{now}
 use borrow.Author.Needs.{needs}
 use Rattle.interface.specs.Places.{capAt}
-use Rattle.tree.specs.Walks.{cutAt, packed}
-use Rattle.tree.proofs.MarkLaws.{packed-start, packed-room, packed-marked, packed-unmarked, packed-all}
-use Rattle.tree.proofs.SpaceLaws.{other-space}
+use Rattle.tree.specs.Walks.{cutAt, packed, wordBits}
+use Rattle.tree.proofs.MarkLaws.{packed-start, packed-room, packed-marked, packed-unmarked, packed-all, word-space, marked-in}
+use Rattle.tree.proofs.UnmarkedLaws.{parentless-word}
 use Rattle.tree.proofs.mark_word.Statement.{statement}
 use Rattle.tree.proofs.mark_word.Tie as tie
 
 abbrev Inv-loop : tie.InvT-loop
-Inv-loop table marked from first size self-too word₀ offset₀ word offset =
-    (offset ≤ 32) × (word ≡ packed (cutAt (capAt table) (first .0) size self-too) (from .0 + offset) (32 - offset))
+Inv-loop table marked from first size self-too asked word₀ offset₀ word offset =
+    (offset ≤ wordBits) × (word ≡ packed (cutAt (capAt table) (first .0) size self-too) (from .0 + offset) (wordBits - offset))
 
 abbrev μ-loop : tie.MeasureT-loop
-μ-loop table marked from first size self-too word₀ offset₀ word offset = offset
+μ-loop table marked from first size self-too asked word₀ offset₀ word offset = offset
 
-space-requires : tie.Need-space-requires Inv-loop μ-loop
-space-requires c κs = search needs
+range-meets-requires : tie.Need-range-meets-requires Inv-loop μ-loop
+range-meets-requires c κs = let start = c .before in (start .pre .0 .ends, start .pre .2)
 
-space-requires-2 : tie.Need-space-requires-2 Inv-loop μ-loop
-space-requires-2 c κs = search needs
+are-parentless-requires : tie.Need-are-parentless-requires Inv-loop μ-loop
+are-parentless-requires c κs = let start = c .before .before in (start .pre .0 .sized, start .pre .2)
 
 returns : tie.Need-returns Inv-loop μ-loop
 returns c =
     let start = c .before .before .before .before in
-    other-space _ (start .pre .1) (start .pre .4) (start .args .self-too) _ _ _ (start .pre .2) (start .pre .3) (c .before .before .space .ensures)
-    (c .before .space2 .ensures) (c .if1 .taken)
+    parentless-word (capAt (now (start .args .table))) (start .args .first .0) (start .args .size) (start .args .from .0) (start .args .self-too)
+    (c .before .before .range-meets .ensures) (c .before .are-parentless .ensures) (c .if1 .taken)
 
 loop-holds : tie.Need-loop-holds Inv-loop μ-loop
 loop-holds c = (omega arith, packed-start _ _)
@@ -44,7 +45,17 @@ after-requires c κs = omega arith
 is-cut-requires : tie.Need-is-cut-requires Inv-loop μ-loop
 is-cut-requires c κs =
     let start = c .before .before .before .before .before .before .before in
-    (start .pre .0, start .pre .1, omega arith, start .pre .4 .ends, start .pre .5)
+    let marking = start .pre .0 in
+    let at = c .after .ensures in
+    let beside = word-space (start .args .from .0) (c .before .before .loop .offset - 1) (start .pre .1) (omega arith) in (
+      record {
+        sized = marking .sized;
+        links = marking .links;
+        ends = marking .ends;
+        marked = rw at (marked-in beside (marking .marked));
+      },
+      omega arith,
+    )
 
 add-word : tie.Need-add-word Inv-loop μ-loop
 add-word c = let inv = c .before .before .before .before .loop .inv in omega (arith, packed-room _ _ _ (inv .1) (omega arith) (inv .0))
@@ -74,8 +85,8 @@ mark-word-spec =
     (tie.spec
     Inv-loop
     μ-loop
-    space-requires
-    space-requires-2
+    range-meets-requires
+    are-parentless-requires
     returns
     loop-holds
     sub-offset

@@ -1,6 +1,6 @@
 -- What is stored at the place is what stripping leaves of it.
 use borrow.Author.Needs.{needs}
-use Rattle.tree.proofs.RevocationLaws.{strips-all, strips-some}
+use Rattle.tree.proofs.StripLaws.{strips-all, strips-some}
 use Rattle.tree.proofs.strip.Statement.{statement}
 use Rattle.tree.proofs.strip.Tie as tie
 

@@ -1,0 +1,2 @@
+-- What is proved of the message block's definitions.
+pub mod BlockLaws

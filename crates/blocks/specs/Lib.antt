@@ -1,0 +1,2 @@
+-- What the contracts of the message block cite.
+pub mod Fitting

@@ -1,0 +1,2 @@
+-- What the contracts of delegation cite.
+pub mod Delegating

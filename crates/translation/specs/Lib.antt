@@ -1,0 +1,2 @@
+-- What the contracts of translation cite.
+pub mod Translating

@@ -1,0 +1,2 @@
+-- What is proved of items and their windows.
+pub mod WindowLaws

@@ -1,0 +1,2 @@
+-- What the contracts of items and their windows cite.
+pub mod Matching
