@@ -6,9 +6,11 @@ use mathlib.Core.List.{List, [], _∷_}
 use lib.Dec.{eqb}
 use lib.ListN.{length}
 use Rattle.words.specs.Sizes.{records, recordWords}
-use Rattle.interface.specs.Basics.{word, allBelow}
+use Rattle.interface.specs.Basics.{if_then_else_, word, allBelow}
 use Rattle.interface.specs.Places.{State, nothing, objectTableWords, objectAt}
 use Rattle.interface.specs.Damage.{fixed-record, interrupt-rule, unnamed-rule, used-first, pdsBelow, pd-rule, ec-rule, sc-rule, pt-rule}
+use Rattle.record_rules.specs.declared.CountedPds.{CountedPds}
+use Rattle.record_rules.specs.declared.CountedPds.the-variants.{InTurn, OutOfTurn}
 
 -- what an object table alone shows
 abbrev pub recordsIn : List ℕ → State
@@ -21,6 +23,10 @@ hasWords s r kind first second third = allBelow recordWords (λ k. eqb (s .objec
 -- whether a record keeps the rules of records other than that of PDs
 unfoldable pub recordKeeps : State → ℕ → Bool
 recordKeeps s r = fixed-record s r && interrupt-rule s r && unnamed-rule s r && used-first s r && ec-rule s r && sc-rule s r && pt-rule s r
+
+-- how many PDs there are, if each keeps its rule
+abbrev pub countedPds : State → CountedPds
+countedPds s = if allBelow records (pd-rule s) then InTurn (pdsBelow s records) else OutOfTurn
 
 -- the PDs of an object table keep their rule, and are so many
 pub record Numbered (table : List ℕ) (pds : ℕ) : Type 0 where
