@@ -84,7 +84,7 @@ pub extern "C" fn rudozhev_census(
 }
 
 // The number of the first rule of damage that the tables break in the high 32 bits, 0 where they are sound, and in the low ones the lowest record that breaks it or else the
-// lowest place, places counted from 64 on.
+// lowest place, places counted on from the number of records.
 #[no_mangle]
 pub extern "C" fn rudozhev_damage(places: &[u32], objects: &[u32]) -> u64
     ensures { λ r. ⌜ r ≡ packedFault (fault (tables (now (places .entry)) (now (objects .entry)))) ⌝ }

@@ -42,11 +42,6 @@ pub const ROOT_QUANTUM: u32 = 10000;
 // The EC word of an idle SC: no EC's number.
 pub const NO_EC: u32 = sizes::RECORDS;
 
-// The lengths of the two tables.
-const PLACE_TABLE_WORDS: usize = sizes::PLACE_WORDS * sizes::PLACES as usize;
-
-const OBJECT_TABLE_WORDS: usize = sizes::RECORD_WORDS * sizes::RECORDS as usize;
-
 // The words of a record: its kind and four more.
 struct Words(u32, u32, u32, u32, u32);
 
@@ -187,7 +182,7 @@ fn fill_objects(table: &mut [u32])
 pub fn are_sized(places: &[u32], objects: &[u32]) -> bool
     ensures { λ r. ⌜ r ≡ sized (record { places = now (places .entry); objects = now (objects .entry) }) ⌝ }
 {
-    (places.len() == PLACE_TABLE_WORDS) & (objects.len() == OBJECT_TABLE_WORDS)
+    (places.len() == sizes::PLACE_TABLE_WORDS) & (objects.len() == sizes::OBJECT_TABLE_WORDS)
 }
 
 // Fills two lent tables, whatever they held; tables of other lengths are refused and stay.

@@ -228,7 +228,7 @@ pub fn create_ec(
                 objects::EC,
                 home,
                 cpu,
-                event_base % sizes::SELECTORS,
+                event_base % sizes::OBJECTS,
                 0,
             );
             Reply::Success(0)

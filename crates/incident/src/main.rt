@@ -629,10 +629,13 @@ fn story(places: &mut [u32], objects: &mut [u32], list: &mut [u32]) {
     aftermath(places, objects, list);
 }
 
+// A census lists no more places than there are.
+const LIST_WORDS: usize = sizes::PLACES as usize;
+
 // Tells the story on tables that start as zeros.
 fn main() {
-    let mut places = [0u32; 6144];
-    let mut objects = [0u32; 320];
-    let mut list = [0u32; 1536];
+    let mut places = [0u32; sizes::PLACE_TABLE_WORDS];
+    let mut objects = [0u32; sizes::OBJECT_TABLE_WORDS];
+    let mut list = [0u32; LIST_WORDS];
     story(&mut places, &mut objects, &mut list);
 }

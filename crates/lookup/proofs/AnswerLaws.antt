@@ -1,14 +1,17 @@
 -- What LOOKUP answers: the range around a base, and the reply to each reading of a descriptor.
-use Prim.Native.Nat.{ℕ, _+_, _^_, _≤_, _<_}
+use Prim.Native.Nat.{ℕ, _+_, _*_, _%_, _^_, _≤_, _<_}
 use mathlib.Core.Path.{_≡_, _∙_}
 use mathlib.Core.Bool.{true, false}
 use mathlib.Core.List.{List}
+use native.Mathlib.Nat.{mod-eq-of-lt}
 use native.Mathlib.Omega.{arith}
 use lib.Pow.{pow-pos}
-use Rattle.words.specs.Sizes.{selectors, greatestOrder, placeOf, spaceOf, selectorOf}
+use Rattle.words.specs.Sizes.{domains, object, spaces, selectors, start, stride, greatestOrder, placeOf}
+use Rattle.words.specs.Sizes.{places as placeCount}
 use Rattle.words.specs.Ranges.{rounded}
-use Rattle.words.proofs.RangeLaws.{aligned-divides, size-divides, rounded-divides, multiples-apart}
-use Rattle.words.proofs.PlaceLaws.{selector-back}
+use Rattle.words.proofs.RangeLaws.{aligned-divides, rounded-divides}
+use Rattle.words.proofs.SizeLaws.{selectors-few}
+use Rattle.words.proofs.PlaceLaws.{start-rises}
 use Rattle.descriptor.specs.declared.Range.{Range}
 use Rattle.descriptor.specs.declared.Reading.the-variants.{Null, Malformed, Good}
 use Rattle.descriptor.specs.declared.Reply.the-variants.{Success, BadPar}
@@ -16,63 +19,55 @@ use Rattle.descriptor.specs.Descriptors.{Proper, describe, reading}
 use Rattle.interface.specs.Places.{Cap, State, live, domainWord, capAt, view}
 use Rattle.interface.specs.Verdicts.{Call, replyOf}
 use Rattle.interface.specs.Lookup.{largest, around, found, lookup}
-use Rattle.lookup.proofs.SpaceLaws.{rounded-place, largest-space}
+use Rattle.lookup.proofs.UniformLaws.{range-ends}
 
--- a range's base in a domain: its place, and what that holds
-pub record Base (places : List ℕ) (domain : ℕ) (range : Range) (place : ℕ) (cap : Cap) : Type 0 where
+-- a range's base in a domain: where its space begins there, the base's selector, and what the base's place holds
+pub record Base (places : List ℕ) (domain : ℕ) (range : Range) (first selector : ℕ) (cap : Cap) : Type 0 where
   pub proper : Proper range
-  pub is-place : place ≡ placeOf domain (range .space) (range .base)
-  pub is-cap : cap ≡ capAt places place
+  pub is-first : first ≡ domain * stride + start (range .space)
+  pub is-selector : selector ≡ range .base
+  pub is-cap : cap ≡ capAt places (first + selector)
 
-module _ {places : List ℕ} {domain place : ℕ} {range : Range} {cap : Cap} (base : Base places domain range place cap) where
+module _ {places : List ℕ} {domain first selector : ℕ} {range : Range} {cap : Cap} (base : Base places domain range first selector cap) where
   -- nothing is held there
   pub nothing-found : live cap ≡ false → (objects : List ℕ) → 0 ≡ found (view places objects) domain (Good range)
   unfolding found
   nothing-found none objects =
-      let at-base : live (capAt places (placeOf domain (range .space) (range .base))) ≡ false = rw (base .is-cap, base .is-place) at none in
+      let at-base : live (capAt places (placeOf domain (range .space) (range .base))) ≡ false = rw (base .is-cap, base .is-first, base .is-selector) at none in
       rw at-base
 
-  base-small : range .base < selectors (range .space)
-  base-small = omega (arith, base .proper .ends-inside, pow-pos (range .order))
+  pub base-small : selector < selectors (range .space)
+  base-small = omega (arith, base .is-selector, base .proper .ends-inside, pow-pos (range .order))
 
-  module _ {order : ℕ} (small : order ≤ greatestOrder (range .space)) where
-    -- the selector of the first place of the range of an order around it
-    pub first-selector : selectorOf (rounded order place) ≡ rounded order (range .base)
-    first-selector =
-        let inside : rounded order (range .base) < selectors (range .space) = omega (arith, base-small) in
-        rw (base .is-place, rounded-place domain (range .space) (range .base) order small)
-        (selector-back domain (range .space) (rounded order (range .base)) (base .proper .space-small) inside)
+  pub space-ends : domain < domains → first + selectors (range .space) ≤ placeCount
+  space-ends h = omega (arith, base .is-first, start-rises (range .space) spaces (base .proper .space-small))
+
+  module _ {order low : ℕ} (small : order ≤ greatestOrder (range .space)) (is-low : low ≡ rounded order selector % selectors object) where
+    -- the lowest selector of the range of an order around the base
+    low-rounded : low ≡ rounded order selector
+    low-rounded = is-low ∙ mod-eq-of-lt (omega (arith, base-small, selectors-few (range .space)))
 
     -- that range is one
-    around-ends : rounded order (range .base) + 2 ^ order ≤ selectors (range .space)
-    around-ends =
-        multiples-apart (2 ^ order) (rounded-divides order (range .base)) (size-divides order (greatestOrder (range .space)) small)
-        (omega (arith, base-small))
-
-    pub around-proper : {space selector mask : ℕ} → space ≡ range .space → selector ≡ selectorOf (rounded order place) → mask < 2 ^ 5 →
-        Proper (record { space = space; base = selector; order = order; mask = mask })
-    around-proper is-space is-selector mask-small =
+    pub around-proper : {space mask : ℕ} → space ≡ range .space → mask < 2 ^ 5 → Proper (record { space = space; base = low; order = order; mask = mask })
+    around-proper is-space mask-small =
         record {
           space-small = rw is-space (base .proper .space-small);
-          order-small = small;
-          base-aligned = rw (is-selector, first-selector) (aligned-divides order (rounded order (range .base)) .1 (rounded-divides order (range .base)));
-          ends-inside = rw (is-selector, first-selector) around-ends;
+          order-small = rw is-space small;
+          base-aligned = rw low-rounded (aligned-divides order (rounded order selector) .1 (rounded-divides order selector));
+          ends-inside = rw (is-space, low-rounded) (range-ends (greatestOrder (range .space)) order selector small base-small);
           mask-small = mask-small;
         }
 
     -- it is what is found, where the order is the largest and something is held
-    pub range-found : {space selector answer : ℕ} → live cap ≡ true → order ≡ largest (capAt places) place (greatestOrder (spaceOf place)) →
-        space ≡ range .space → selector ≡ selectorOf (rounded order place) →
-        answer ≡ describe (record { space = space; base = selector; order = order; mask = cap .permissions }) →
+    pub range-found : {space answer : ℕ} → live cap ≡ true → order ≡ largest (λ k. capAt places (first + k)) selector (greatestOrder (range .space)) → space ≡ range .space →
+        answer ≡ describe (record { space = space; base = low; order = order; mask = cap .permissions }) →
         (objects : List ℕ) → answer ≡ found (view places objects) domain (Good range)
     unfolding found around
-    range-found some is-order is-space is-selector is-answer objects =
-        let at-base : live (capAt places (placeOf domain (range .space) (range .base))) ≡ true = rw (base .is-cap, base .is-place) at some in
+    range-found some is-order is-space is-answer objects =
+        let at-base : live (capAt places (placeOf domain (range .space) (range .base))) ≡ true = rw (base .is-cap, base .is-first, base .is-selector) at some in
         let is-largest : order ≡ largest (λ k. capAt places (placeOf domain (range .space) k)) (range .base) (greatestOrder (range .space)) =
-        (rw (base .is-place) at is-order)
-        ∙ largest-space domain (range .space) (range .base) (capAt places) (greatestOrder (range .space)) (omega arith)
-        in
-        rw (at-base, ← is-largest, is-answer, is-space, is-selector, first-selector, base .is-cap, base .is-place)
+        rw (base .is-first, base .is-selector) at is-order in
+        rw (at-base, ← is-largest, is-answer, is-space, low-rounded, base .is-cap, base .is-first, base .is-selector)
 
 -- the reply to each reading of a descriptor
 module _ (s : State) {descriptor : ℕ} where

@@ -4,8 +4,9 @@ ghost use mathlib.Core.Bool.{_&&_};
 ghost use mathlib.Core.List.{List};
 ghost use Prim.Native.Nat.{ℕ, _+_, _^_, _<_, _≤_};
 ghost use lib.Dec.{eqb};
-ghost use Rattle.words.specs.Sizes.{domains, spaceOf, greatestOrder};
+ghost use Rattle.words.specs.Sizes.{domains};
 ghost use Rattle.words.specs.Sizes.{places as placeCount};
+ghost use Rattle.words.specs.Ranges.{rounded};
 ghost use Rattle.descriptor.specs.Descriptors.{Proper};
 ghost use Rattle.descriptor.specs.declared.Reading.the-variants.{Good};
 ghost use Rattle.interface.specs.Places.{live, capAt, view};
@@ -21,6 +22,7 @@ use descriptor::Place;
 use descriptor::Range;
 use descriptor::Reading;
 use descriptor::Reply;
+use descriptor::Selector;
 use words::ranges;
 use words::sizes;
 
@@ -33,18 +35,18 @@ fn continues(cap: Cap, permissions: u32, resource: u32, offset: u32) -> bool
         & (cap.resource as u64 == resource as u64 + offset as u64)
 }
 
-// Whether the places of the range of an order around a place are all live, with equal permissions and resources rising by one.
-fn is_uniform(places: &[u32], place: Place, order: u32) -> bool
-    requires { ⌜ Sized (now places) × (place .0 < placeCount) × (order ≤ greatestOrder (spaceOf (place .0))) ⌝ }
-    ensures { λ r. ⌜ r ≡ uniform (capAt (now (places .entry))) (place .0) order ⌝ }
+// Whether the places of the range of an order around a selector of a space, which begins at a place, are all live, with equal permissions and resources rising by one.
+fn is_uniform(places: &[u32], first: Place, selector: u32, order: u32) -> bool
+    requires { ⌜ Sized (now places) × (order < 32) × (first .0 + (rounded order selector + 2 ^ order) ≤ placeCount) ⌝ }
+    ensures { λ r. ⌜ r ≡ uniform (λ k. capAt (now (places .entry)) (first .0 + k)) selector order ⌝ }
 {
-    let first = place.rounded_down(order);
+    let low = ranges::round_down(order, selector);
     let size = ranges::size(order);
-    let permissions = places::load(places, place).permissions;
-    let resource = places::load(places, first).resource;
+    let permissions = places::load(places, first.after(selector)).permissions;
+    let resource = places::load(places, first.after(low)).resource;
     let mut offset = 0;
     while offset < size {
-        let cap = places::load(places, first.after(offset));
+        let cap = places::load(places, first.after(low + offset));
         if !continues(cap, permissions, resource, offset) {
             return false;
         }
@@ -53,14 +55,14 @@ fn is_uniform(places: &[u32], place: Place, order: u32) -> bool
     true
 }
 
-// The largest order of such a range around a place, or 0.
-fn largest_order(places: &[u32], place: Place) -> u32
-    requires { ⌜ Sized (now places) × (place .0 < placeCount) ⌝ }
-    ensures { λ r. ⌜ (r ≡ largest (capAt (now (places .entry))) (place .0) (greatestOrder (spaceOf (place .0)))) × (r ≤ greatestOrder (spaceOf (place .0))) ⌝ }
+// The largest order, of at most the greatest of the space, of such a range around a selector, or 0.
+fn largest_order(places: &[u32], first: Place, selector: u32, greatest: u32) -> u32
+    requires { ⌜ Sized (now places) × (greatest < 32) × (selector < 2 ^ greatest) × (first .0 + 2 ^ greatest ≤ placeCount) ⌝ }
+    ensures { λ r. ⌜ (r ≡ largest (λ k. capAt (now (places .entry)) (first .0 + k)) selector greatest) × (r ≤ greatest) ⌝ }
 {
-    let mut order = sizes::GREATEST_ORDER;
+    let mut order = greatest;
     while 0 < order {
-        if is_uniform(places, place, order) {
+        if is_uniform(places, first, selector, order) {
             return order;
         }
         order -= 1;
@@ -74,14 +76,15 @@ fn found(places: &[u32], domain: u32, range: Range) -> u32
     ensures { λ r. ⌜ ((objects : List ℕ) → r ≡ foundRange (view (now (places .entry)) objects) domain (Good range)) ⌝ }
 {
     let space = range.space();
-    let base = Place::of(domain, space, range.at(0));
-    let cap = places::load(places, base);
+    let selector = range.at(0).number();
+    let first = Place::of(domain, space, Selector::wrapped(0));
+    let cap = places::load(places, first.after(selector));
     if !places::is_live(cap) {
         return Descriptor::NULL.word();
     }
-    let order = largest_order(places, base);
-    let first = base.rounded_down(order);
-    Descriptor::of(space, first.selector(), order, cap.permissions).word()
+    let order = largest_order(places, first, selector, sizes::greatest_order(space));
+    let base = Selector::wrapped(ranges::round_down(order, selector));
+    Descriptor::of(space, base, order, cap.permissions).word()
 }
 
 // LOOKUP on sound tables: the largest range around a descriptor's base, as a descriptor, or the null descriptor where nothing is held there.

@@ -10,6 +10,7 @@ use journal::lines;
 use libc::STDIN_FILENO;
 use libc::STDOUT_FILENO;
 use playback::Found;
+use words::sizes;
 
 // How far the replay of a journal is.
 struct Progress {
@@ -223,8 +224,8 @@ fn replay_journal(
     requires { ⌜ Waits (now out) waiting ⌝ }
     ensures { λ r. ⌜ Waits (now (out .exit)) r ⌝ }
 {
-    let mut places = [0u32; 6144];
-    let mut objects = [0u32; 320];
+    let mut places = [0u32; sizes::PLACE_TABLE_WORDS];
+    let mut objects = [0u32; sizes::OBJECT_TABLE_WORDS];
     kernel::boot(&mut places, &mut objects);
     let progress = replay_all(
         descriptor,

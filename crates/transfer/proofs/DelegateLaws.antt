@@ -40,12 +40,13 @@ made-small domain space selector place d l b e = rw e (is-place domain space sel
 pub given-places : (from to : ℕ) (item window : Range) (at into : ℕ) {before after : List ℕ} {destination source mask space selector other : ℕ} {filled : Bool} →
     Given before after destination source mask filled → mask ≡ item .mask → destination ≡ placeOf to space selector →
     (selector ≡ window .base + into) × (selector < selectors (window .space)) → source ≡ placeOf from space other →
-    (other ≡ item .base + at) × (other < selectors (item .space)) → space ≡ item .space → from < domains → to < domains → item .space < spaces →
+    (other ≡ item .base + at) × (other < selectors (item .space)) → space ≡ item .space → from < domains → to < domains → Matched item window →
     GivenAt before after (placeOf to (item .space) (window .base + into)) (placeOf from (item .space) (item .base + at)) (item .mask) filled
-given-places from to item window at into {before} {after} {destination} {source} {mask} {space} {selector} {other} {filled} g m d l s k e f t small =
+given-places from to item window at into {before} {after} {destination} {source} {mask} {space} {selector} {other} {filled} g m d l s k e f t both =
+    let small = both .item-proper .space-small in
     let there : destination ≡ placeOf to (item .space) (window .base + into) = rw (e, l .0) at d in
     let here : source ≡ placeOf from (item .space) (item .base + at) = rw (e, k .0) at s in
-    let into-small : window .base + into < selectors (item .space) = rw (l .0) at (l .1) in
+    let into-small : window .base + into < selectors (item .space) = rw (l .0, sym (both .same-space)) at (l .1) in
     let at-small : item .base + at < selectors (item .space) = rw (k .0) at (k .1) in
     record {
       is-place = is-place to (item .space) (window .base + into) t small into-small;

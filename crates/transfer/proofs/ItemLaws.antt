@@ -8,7 +8,7 @@ use native.Mathlib.Omega.{arith}
 use lib.Bits.{and-le-l}
 use lib.Dec.{eqb}
 use borrow.Author.Tests.{eq-eqb, ne-eqb}
-use Rattle.words.specs.Sizes.{memory, selectors, placeOf}
+use Rattle.words.specs.Sizes.{object, selectors, placeOf}
 use Rattle.words.specs.Ranges.{rounded}
 use Rattle.words.proofs.RangeLaws.{keeps-aligned, ends-inside}
 use Rattle.descriptor.specs.declared.Range.{Range}
@@ -20,7 +20,7 @@ use Rattle.descriptor.specs.declared.Received.the-variants.{NullItem, Shows}
 use Rattle.descriptor.specs.declared.Reason.{Reason}
 use Rattle.descriptor.specs.declared.Reason.the-variants.{TranslationBroke}
 use Rattle.descriptor.specs.Descriptors.{kept, Proper}
-use Rattle.descriptor.proofs.DescriptorLaws.{reading-kept, matched-good, good-proper}
+use Rattle.descriptor.proofs.DescriptorLaws.{reading-kept, matched-good, good-proper, proper-end}
 use Rattle.interface.specs.Places.{Cap, State, capAt}
 use Rattle.interface.specs.Boot.{hypervisor, root}
 use Rattle.interface.specs.Descriptors.{describe, reading, matched}
@@ -44,6 +44,10 @@ module _ (sender second : ℕ) where
   unfolding sourceDomain
   source-own f = rw f
 
+-- a matched window ends in the item's space
+window-ends : (item window : Range) → Matched item window → window .base + 2 ^ window .order ≤ selectors (item .space)
+window-ends item window m = rw (sym (m .same-space)) at (m .window-proper .ends-inside)
+
 -- the destination of a delegation, as the code makes it
 pub is-destination : (hotspot : ℕ) (item window : Range) {item-order window-order order at selected space mask : ℕ} {range : Range} → item-order ≡ item .order →
     window-order ≡ window .order → order ≡ min item-order window-order → (at ≡ rounded order (hotspot % 2 ^ window-order)) × (at + 2 ^ order ≤ 2 ^ window-order) →
@@ -55,13 +59,12 @@ is-destination hotspot item window io wo o a s sp m r = rw (sp, s .0, a .0, o, i
 pub destination-proper : (hotspot : ℕ) (item window : Range) → Matched item window → Proper (destinationOf hotspot item window)
 destination-proper hotspot item window m =
     let o = smallerOrder item window in
-    let window-ends : window .base + 2 ^ window .order ≤ selectors (item .space) = m .window-proper .ends-inside in
     let within = ends-inside (window .order) o hotspot (window .base) (omega arith) in
     record {
       space-small = m .item-proper .space-small;
       order-small = omega (arith, m .item-proper .order-small);
       base-aligned = keeps-aligned (window .order) o hotspot (window .base) (omega arith) (m .window-proper .base-aligned);
-      ends-inside = omega arith;
+      ends-inside = omega (arith, window-ends item window m);
       mask-small = m .item-proper .mask-small;
     }
 
@@ -95,7 +98,7 @@ translated-proper table sender receiver item window m e range shows =
       space-small = m .item-proper .space-small;
       order-small = m .item-proper .order-small;
       base-aligned = shown-aligned caps sender receiver item window t;
-      ends-inside = omega (arith, m .window-proper .ends-inside);
+      ends-inside = omega (arith, window-ends item window m);
       mask-small = omega (arith, m .item-proper .mask-small, common-le (item .mask) (2 ^ item .order) held);
     }))
     (λ (f : translates caps sender receiver item window ≡ false).
@@ -112,13 +115,13 @@ made-proper range p sp s o m = rw (sp, s .0, add-zero (range .base), o, m) p
 taken-none : {table : List ℕ} → Sized table → Taken table table [] 0
 taken-none sized = running-taken (running-none sized)
 
--- an item's delegations fill no more places than a space has selectors
-delegations-few : (from to hotspot : ℕ) (item window : Range) (s : State) → Matched item window → filled (delegations from to hotspot item window) s ≤ selectors memory
+-- an item's delegations fill no more places than the object space has selectors
+delegations-few : (from to hotspot : ℕ) (item window : Range) (s : State) → Matched item window → filled (delegations from to hotspot item window) s ≤ selectors object
 delegations-few from to hotspot item window s m =
     let o = smallerOrder item window in
     let within = ends-inside (item .order) o hotspot (item .base) (omega arith) in
     let few = filled-few (2 ^ o) (λ i. placeOf to (item .space) (raisedBase window o hotspot + i)) (λ i. placeOf from (item .space) (raisedBase item o hotspot + i)) (λ i. item .mask) s in
-    omega (arith, m .item-proper .ends-inside)
+    omega (arith, proper-end (m .item-proper))
 
 -- a delegated item, by how many places its delegations filled
 module _ (sender receiver second : ℕ) (item window : Range) {before after : List ℕ} {from hotspot filled : ℕ} (f : from ≡ sourceDomain sender second)

@@ -8,7 +8,7 @@ use native.Mathlib.Omega.{arith}
 use lib.ListN.{length, take, drop, set, length-set, length-drop, take-append-drop}
 use lib.Seq.{take-all, drop-length, length-take-le}
 use borrow.Rule.Slice.PartMut.{putMid, post-is}
-use Rattle.words.specs.Sizes.{memory, selectors, domains, blockWords}
+use Rattle.words.specs.Sizes.{object, selectors, domains, blockWords}
 use Rattle.interface.specs.Basics.{word}
 use Rattle.interface.specs.Places.{State, capAt, capTable}
 use Rattle.interface.specs.Effects.{run, filled}
@@ -28,7 +28,7 @@ pub record Moving (start : List ℕ) (sender receiver : ℕ) (source upper₀ : 
   pub sized : Sized table
   pub live-links : LiveLinks (capAt table)
   pub inside : i ≤ typed
-  pub few : count ≤ selectors memory * i
+  pub few : count ≤ selectors object * i
   pub same-length : length upper ≡ length upper₀
   pub shows : placesOnly table ≡ run (movedBy (placesOnly start) sender receiver source translating delegating upper₀ i .effects) (placesOnly start)
   pub fills : count ≡ movedBy (placesOnly start) sender receiver source translating delegating upper₀ i .filled

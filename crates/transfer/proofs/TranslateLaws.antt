@@ -8,9 +8,10 @@ use native.Mathlib.Omega.{arith}
 use lib.Dec.{eqb, leb, ltb}
 use lib.Pow.{pow-pos}
 use borrow.Author.Tests.{eqb-true, eqb-false, eq-eqb, leb-true, le-leb, ltb-true, lt-ltb, not-true, not-false}
-use Rattle.words.specs.Sizes.{domains, memory, selectors, stride, places, placeOf, domainOf, spaceOf, selectorOf}
+use Rattle.words.specs.Sizes.{domains, object, selectors, stride, places, placeOf, domainOf, spaceOf, selectorOf}
 use Rattle.words.specs.Permissions.{delegated}
 use Rattle.words.specs.Ranges.{aligned}
+use Rattle.words.proofs.SizeLaws.{selectors-few}
 use Rattle.words.proofs.PlaceLaws.{is-place, space-back, selector-small, made-so}
 use Rattle.descriptor.specs.declared.Place.{Place}
 use Rattle.descriptor.specs.declared.FoundPlace.{FoundPlace}
@@ -155,7 +156,7 @@ pub record Searching (table : List ℕ) (sender receiver : ℕ) (item window : R
   pub is-order : order ≡ item .order
   pub is-size : size ≡ 2 ^ item .order
   pub inside-range : i ≤ size
-  pub base-small : base < selectors memory
+  pub base-small : base < selectors object
   pub is-base : 0 < i → base ≡ translatedBase (capAt table) sender receiver item
   pub in-turn : (k : ℕ) → k < i → ancestorAt (capAt table) sender receiver item k ≡ placeOf receiver (item .space) (translatedBase (capAt table) sender receiver item + k) + 1
   pub may-begin : 0 < i → aligned (item .order) (translatedBase (capAt table) sender receiver item) ≡ true
@@ -169,7 +170,7 @@ pub search-begins : {table : List ℕ} {sender receiver : ℕ} {item window : Ra
     (base ≡ item .base + 0) × (base < selectors (item .space)) → mask ≡ item .mask →
     Searching table sender receiver item window order size base mask 0
 unfolding common
-search-begins pre o z b m =
+search-begins {item = item} pre o z b m =
     record {
       sized = pre .0;
       linked = pre .1;
@@ -179,7 +180,7 @@ search-begins pre o z b m =
       is-order = o;
       is-size = rw o at z;
       inside-range = omega arith;
-      base-small = omega arith;
+      base-small = omega (arith, selectors-few (item .space));
       is-base = λ l. absurd (omega arith);
       in-turn = λ k l. absurd (omega arith);
       may-begin = λ l. absurd (omega arith);
@@ -247,8 +248,10 @@ module _ {table : List ℕ} {sender receiver : ℕ} {item window : Range} {order
           let later = eqb-false i 0 g in
           is-old ∙ s .is-base (omega arith))
 
-      pub next-small : next < selectors memory
-      next-small = rw next-base (omega (arith, selector-small (ancestorAt (capAt table) sender receiver item 0 - 1)))
+      pub next-small : next < selectors object
+      next-small =
+          let first = ancestorAt (capAt table) sender receiver item 0 - 1 in
+          rw next-base (omega (arith, selector-small first, selectors-few (spaceOf first)))
 
       module _ {number start : ℕ} {lies : Bool} (is-number : number ≡ selected) (is-start : start ≡ next) (is-lies : lies ≡ liesThere number start order i window) where
         lies-as-shown : lies ≡ liesThere selected shown (item .order) i window

@@ -4,7 +4,7 @@ use mathlib.Core.Path.{_≡_}
 use mathlib.Core.Bool.{Bool, true, _&&_}
 use mathlib.Core.List.{List}
 use lib.Dec.{eqb, leb, ltb}
-use Rattle.words.specs.Sizes.{memory, selectors, places, spaceOf}
+use Rattle.words.specs.Sizes.{object, selectors, places, spaceOf}
 use Rattle.words.specs.Ranges.{aligned}
 use Rattle.descriptor.specs.declared.Range.{Range}
 use Rattle.descriptor.specs.Descriptors.{Proper}
@@ -60,8 +60,8 @@ itemBy s sender receiver descriptor second translating delegating =
     then delegateItem s sender receiver second (matched (reading descriptor) (reading delegating))
     else translateItem s sender receiver (matched (reading descriptor) (reading translating))
 
--- an item that is done: the word that the receiver is given, and its delegations, no more than a space has selectors
+-- an item that is done: the word that the receiver is given, and its delegations, no more than the object space has selectors
 pub record Done (before after : List ℕ) (item : Item) (outcome : Outcome) : Type 0 where
   pub shown : outcome .word ≡ receivedWord (item .received)
   pub taken : Taken before after (item .effects) (outcome .filled)
-  pub few : outcome .filled ≤ selectors memory
+  pub few : outcome .filled ≤ selectors object

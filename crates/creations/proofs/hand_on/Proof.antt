@@ -1,8 +1,10 @@
 -- The places before the loop's offset are handed on.
-use Prim.Native.Nat.{_-_, _^_, _≤_}
+use Prim.Native.Nat.{_-_, _^_, _≤_, _<_}
 use mathlib.Core.Path.{_≡_}
 use native.Mathlib.Omega.{arith}
 use borrow.Author.Needs.{needs}
+use Rattle.words.specs.Sizes.{object, selectors}
+use Rattle.descriptor.proofs.DescriptorLaws.{proper-order}
 use Rattle.interface.specs.Basics.{listed}
 use Rattle.interface.specs.Creations.{handOn}
 use Rattle.places.specs.Table.{Sized}
@@ -23,7 +25,7 @@ order-requires : tie.Need-order-requires Inv-loop μ-loop
 order-requires c κs = search needs
 
 size-requires : tie.Need-size-requires Inv-loop μ-loop
-size-requires c κs = omega arith
+size-requires c κs = omega (arith, proper-order (c .before .before .pre .3))
 
 loop-holds : tie.Need-loop-holds Inv-loop μ-loop
 unfolding listed
@@ -32,17 +34,21 @@ loop-holds c = (omega arith, rw (c .size .ensures, c .before .order .ensures), s
 at-requires : tie.Need-at-requires Inv-loop μ-loop
 at-requires c κs = search needs
 
+-- the loop's selector is one of the object space
+selector-small : (c : tie.After-at Inv-loop μ-loop) → c .at .result .0 < selectors object
+selector-small c = rw (c .before .before .before .before .before .before .pre .4) at (c .at .ensures .1)
+
 of-requires : tie.Need-of-requires Inv-loop μ-loop
-of-requires c κs = search needs
+of-requires c κs = search (selector-small c, needs)
 
 of-requires-2 : tie.Need-of-requires-2 Inv-loop μ-loop
-of-requires-2 c κs = search needs
+of-requires-2 c κs = search (selector-small (c .before), needs)
 
 mask-requires : tie.Need-mask-requires Inv-loop μ-loop
 mask-requires c κs = search needs
 
 give-requires : tie.Need-give-requires Inv-loop μ-loop
-give-requires c κs = search needs
+give-requires c κs = search (selector-small (c .before .before .before .before), needs)
 
 add-offset : tie.Need-add-offset Inv-loop μ-loop
 add-offset c = omega arith
@@ -59,7 +65,7 @@ loop-again c =
       omega arith,
       turn .loop .inv .1,
       search needs,
-      hands-more (start .args .from) (start .args .to) (range .base) (range .mask) (turn .loop .offset) (turn .loop .inv .2) (omega arith)
+      hands-more (start .args .from) (start .args .to) (range .base) (range .mask) (turn .loop .offset) (turn .loop .inv .2) (omega (arith, selector-small selected))
           (selected .at .ensures .0) (c .before .before .before .before .before .before .of .ensures) (c .before .before .before .before .before .of2 .ensures) (c .before .before .before .mask .ensures) (turn .loop .inv .3) (c .before .before .give .ensures),
     )
 

@@ -4,7 +4,7 @@ use native.Mathlib.Omega.{arith}
 use lib.Pow.{pow-pos}
 use borrow.Author.Needs.{needs}
 use Rattle.descriptor.specs.Descriptors.{Proper, reading}
-use Rattle.descriptor.proofs.DescriptorLaws.{reading-kept, good-proper}
+use Rattle.descriptor.proofs.DescriptorLaws.{reading-kept, good-proper, proper-order}
 use Rattle.tree.proofs.LinkLaws.{sound-linked}
 use Rattle.capabilities.proofs.CallerLaws.{sized-places, called-sound}
 use Rattle.revocation.proofs.RevokeLaws.{Aimed, aims, range-in-space, self-refused, malformed-refused, null-revokes, range-revokes}
@@ -50,14 +50,14 @@ of-requires : tie.Need-of-requires
 of-requires c κs = (
   c .before .before .domain .ensures .1,
   omega (arith, c .before .space .ensures, is-proper (c .before .before .before .before .before) .space-small),
-  c .at .ensures .1,
+  rw (c .before .space .ensures) (c .at .ensures .1),
 )
 
 order-requires : tie.Need-order-requires
 order-requires c κs = search needs
 
 size-requires : tie.Need-size-requires
-size-requires c κs = omega (arith, c .order .ensures, is-proper (c .before .before .before .before .before .before .before) .order-small)
+size-requires c κs = omega (arith, c .order .ensures, proper-order (is-proper (c .before .before .before .before .before .before .before)))
 
 mask-requires : tie.Need-mask-requires
 mask-requires c κs = search needs

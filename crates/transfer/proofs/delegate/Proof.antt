@@ -5,6 +5,7 @@ use mathlib.Core.Logic.{⊎-elim}
 use native.Mathlib.Omega.{arith}
 use denote.Ref.{now}
 use borrow.Author.Needs.{needs}
+use Rattle.descriptor.proofs.DescriptorLaws.{proper-order, proper-end}
 use Rattle.transfer.proofs.DelegateLaws.{Going, going-begins, going-filled, going-unfilled, going-ends}
 use Rattle.transfer.proofs.delegate.Statement.{statement}
 use Rattle.transfer.proofs.delegate.Tie as tie
@@ -26,13 +27,13 @@ smaller-requires : tie.Need-smaller-requires Inv-loop μ-loop
 smaller-requires c κs = search needs
 
 offset-requires : tie.Need-offset-requires Inv-loop μ-loop
-offset-requires c κs = omega arith
+offset-requires c κs = omega (arith, proper-order (c .before .before .before .before .pre .3 .item-proper))
 
 offset-requires-2 : tie.Need-offset-requires-2 Inv-loop μ-loop
-offset-requires-2 c κs = omega arith
+offset-requires-2 c κs = omega (arith, proper-order (c .before .before .before .before .before .pre .3 .window-proper))
 
 size-requires : tie.Need-size-requires Inv-loop μ-loop
-size-requires c κs = omega arith
+size-requires c κs = omega (arith, proper-order (c .before .before .before .before .before .before .pre .3 .item-proper))
 
 loop-holds : tie.Need-loop-holds Inv-loop μ-loop
 loop-holds c = let orders = c .before .before .before .before in
@@ -42,10 +43,10 @@ loop-holds c = let orders = c .before .before .before .before in
     (c .before .offset2 .ensures) (c .size .ensures)
 
 add-give-at : tie.Need-add-give-at Inv-loop μ-loop
-add-give-at c = omega arith
+add-give-at c = omega (arith, proper-end (c .before .before .loop .inv .matched .item-proper))
 
 add-give-at-2 : tie.Need-add-give-at-2 Inv-loop μ-loop
-add-give-at-2 c = omega arith
+add-give-at-2 c = omega (arith, proper-end (c .before .before .loop .inv .matched .window-proper))
 
 give-at-requires : tie.Need-give-at-requires Inv-loop μ-loop
 give-at-requires c κs = let g = c .before .before .loop .inv in (

@@ -3,6 +3,7 @@ use Prim.Native.Nat.{_+_, _^_, _≤_}
 use native.Mathlib.Omega.{arith}
 use lib.Pow.{pow-pos}
 use borrow.Author.Needs.{needs}
+use Rattle.descriptor.proofs.DescriptorLaws.{proper-order}
 use Rattle.transfer.proofs.ItemLaws.{is-destination}
 use Rattle.transfer.proofs.destination.Statement.{statement}
 use Rattle.transfer.proofs.destination.Tie as tie
@@ -17,7 +18,7 @@ smaller-requires : tie.Need-smaller-requires
 smaller-requires c κs = search needs
 
 offset-requires : tie.Need-offset-requires
-offset-requires c κs = search needs
+offset-requires c κs = search (proper-order (c .before .before .before .pre .window-proper), needs)
 
 at-requires : tie.Need-at-requires
 at-requires c κs = let start = c .before .before .before .before in

@@ -5,6 +5,7 @@ use native.Mathlib.Nat.{add-zero}
 use native.Mathlib.Omega.{arith}
 use lib.Pow.{pow-pos}
 use borrow.Author.Needs.{needs}
+use Rattle.descriptor.proofs.DescriptorLaws.{proper-order, proper-end}
 use Rattle.transfer.specs.Typed.{liesThere}
 use Rattle.transfer.proofs.lies_there.Statement.{statement}
 use Rattle.transfer.proofs.lies_there.Tie as tie
@@ -19,11 +20,11 @@ order-requires : tie.Need-order-requires
 order-requires c κs = search needs
 
 size-requires : tie.Need-size-requires
-size-requires c κs = search needs
+size-requires c κs = search (proper-order (c .before .before .before .pre .2), needs)
 
 add-end : tie.Need-add-end
 add-end c = let size : c .size .result ≡ 2 ^ c .before .before .before .before .args .window .order = rw (c .before .order .ensures) at (c .size .ensures) in
-    omega (arith, c .before .before .before .before .pre .2 .ends-inside)
+    omega (arith, proper-end (c .before .before .before .before .pre .2))
 
 add-result : tie.Need-add-result
 add-result c = search needs

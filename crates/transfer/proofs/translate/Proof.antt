@@ -4,6 +4,7 @@ use mathlib.Core.Logic.{⊎-elim}
 use native.Mathlib.Omega.{arith}
 use lib.Pow.{pow-pos}
 use borrow.Author.Needs.{needs}
+use Rattle.descriptor.proofs.DescriptorLaws.{proper-order, proper-end}
 use Rattle.transfer.proofs.TranslateLaws.{Searching, search-begins, search-none, next-small, search-elsewhere, search-on, search-shows}
 use Rattle.transfer.proofs.translate.Statement.{statement}
 use Rattle.transfer.proofs.translate.Tie as tie
@@ -18,7 +19,7 @@ order-requires : tie.Need-order-requires Inv-search μ-search
 order-requires c κs = search needs
 
 size-requires : tie.Need-size-requires Inv-search μ-search
-size-requires c κs = omega arith
+size-requires c κs = omega (arith, proper-order (c .before .before .pre .4 .item-proper))
 
 at-requires : tie.Need-at-requires Inv-search μ-search
 at-requires c κs = (c .before .before .before .pre .4 .item-proper, pow-pos (c .before .before .before .args .item .order))
@@ -62,7 +63,7 @@ lies-there-requires c κs = let found = c .before .before .before .before .befor
     let small =
     next-small s (found .before .before .search-test .taken) (found .before .place-at .ensures .0) (found .nearest-in .ensures)
     (c .before .before .before .before .before .above .given .1) (c .before .before .before .selector .ensures) (c .before .before .base-of .ensures) in
-    (omega arith, omega (arith, c .number2 .ensures, s .matched .item-proper .ends-inside), s .matched .window-proper)
+    (omega (arith, proper-order (s .matched .item-proper)), omega (arith, c .number2 .ensures, proper-end (s .matched .item-proper)), s .matched .window-proper)
 
 load-requires : tie.Need-load-requires Inv-search μ-search
 load-requires c κs = let placed = c .before .before .before .before .before .before .before .before .before .before in
