@@ -1,23 +1,25 @@
 -- PDs are numbered 1, 2, .. in the order of their records, so a domain has a PD exactly where it is one of as many numbers as there are PDs.
 use Prim.Native.Nat.{ℕ, _+_, _-_, _≤_}
 use mathlib.Core.Path.{_≡_, refl}
-use mathlib.Core.Bool.{Bool, true, _&&_, _||_}
+use mathlib.Core.Bool.{Bool, true, false, _&&_, _||_}
 use mathlib.Core.List.{List}
 use native.Mathlib.Numerals.{add-one}
 use native.Mathlib.Omega.{arith}
 use lib.Dec.{eqb, leb}
 use borrow.Author.Tests.{leb-true, le-leb, eqb-true}
 use Rattle.words.specs.Sizes.{records}
-use Rattle.interface.specs.Basics.{if_then_else_, anyBelow, countBelow}
+use Rattle.interface.specs.Basics.{if_then_else_, allBelow, anyBelow, countBelow}
 use Rattle.interface.specs.Places.{Cap, State, objectAt, PD, domainWord, kindOf}
 use Rattle.interface.specs.Boot.{hypervisor}
 use Rattle.interface.specs.Damage.{pdsBelow, pd-rule, hasPd, between1}
-use Rattle.interface.proofs.Basics.BoolLaws.{and-left, and-right, both, same-test}
+use Rattle.interface.proofs.Basics.BoolLaws.{and-left, and-right, both, same-test, cases}
 use Rattle.interface.proofs.Basics.BelowLaws.{all-below-at, any-below-at, count-below-past, count-below-reaches}
 use Rattle.interface.proofs.Sound.PlaceFacts.{pd-numbered}
 use Rattle.interface.proofs.Sound.Soundness.{OfRecords}
 use Rattle.interface.proofs.Sound.SoundFacts.{has-pd}
-use Rattle.record_rules.specs.RecordKeeping.{recordsIn, Numbered}
+use Rattle.record_rules.specs.RecordKeeping.{recordsIn, Numbered, countedPds}
+use Rattle.record_rules.specs.declared.CountedPds.{CountedPds}
+use Rattle.record_rules.specs.declared.CountedPds.the-variants.{InTurn, OutOfTurn}
 use Rattle.record_rules.proofs.LoopLaws.{count-below-small, any-below-more}
 
 module _ (s : State) where
@@ -79,6 +81,32 @@ pub home-found : (table : List ℕ) (caps : ℕ → Cap) (domain : ℕ) (found :
     (eqb domain hypervisor || found) ≡ (eqb domain hypervisor || hasPd (record { caps = caps; objects = objectAt table }) domain)
 unfolding hasPd
 home-found table caps domain found h = rw h
+
+-- what a count of PDs answers, and what it tells
+module _ (s : State) where
+  pub out-of-turn : allBelow records (pd-rule s) ≡ false → OutOfTurn ≡ countedPds s
+  out-of-turn f = rw f
+
+  pub in-turn : (pds : ℕ) → allBelow records (pd-rule s) ≡ true → pds ≡ pdsBelow s records → InTurn pds ≡ countedPds s
+  in-turn pds t e = rw (t, e)
+
+  pub turns-kept : (pds : ℕ) → countedPds s ≡ InTurn pds → (allBelow records (pd-rule s) ≡ true) × (pds ≡ pdsBelow s records)
+  turns-kept pds e =
+      cases (allBelow records (pd-rule s))
+      (λ (t : allBelow records (pd-rule s) ≡ true). let same : InTurn (pdsBelow s records) ≡ InTurn pds = rw t at e in (t, cc))
+      (λ (f : allBelow records (pd-rule s) ≡ false).
+      let wrong : OutOfTurn ≡ InTurn pds = rw f at e in
+      let never : _≡_ {A = ℕ} 0 1 = cc in
+      absurd (omega arith))
+
+  pub turns-broken : countedPds s ≡ OutOfTurn → allBelow records (pd-rule s) ≡ false
+  turns-broken e =
+      cases (allBelow records (pd-rule s))
+      (λ (t : allBelow records (pd-rule s) ≡ true).
+      let wrong : InTurn (pdsBelow s records) ≡ OutOfTurn = rw t at e in
+      let never : _≡_ {A = ℕ} 0 1 = cc in
+      absurd (omega arith))
+      (λ (f : allBelow records (pd-rule s) ≡ false). f)
 
 -- there are no more PDs than records
 pub few-pds : {table : List ℕ} {pds : ℕ} → Numbered table pds → pds ≤ records

@@ -6,10 +6,12 @@ use mathlib.Core.List.{List, [], _∷_}
 use lib.Dec.{eqb, ltb}
 use lib.ListN.{length}
 use Rattle.words.specs.Sizes.{records, recordWords}
-use Rattle.interface.specs.Basics.{word, allBelow}
+use Rattle.interface.specs.Basics.{if_then_else_, word, allBelow}
 use Rattle.interface.specs.Places.{State, objectTableWords}
 pub use Rattle.objects.specs.Records.{recordsIn}
 use Rattle.interface.specs.Damage.{fixed-record, interrupt-rule, unnamed-rule, used-first, pdsBelow, pd-rule, ec-rule, sc-rule, pt-rule}
+use Rattle.record_rules.specs.declared.CountedPds.{CountedPds}
+use Rattle.record_rules.specs.declared.CountedPds.the-variants.{InTurn, OutOfTurn}
 
 -- whether a record's words from an index on are 0
 unfoldable pub clearFrom : State → ℕ → ℕ → Bool
@@ -22,6 +24,10 @@ hasWords s r kind first second third = allBelow recordWords (λ k. eqb (s .objec
 -- whether a record keeps the rules of records other than that of PDs
 unfoldable pub recordKeeps : State → ℕ → Bool
 recordKeeps s r = fixed-record s r && interrupt-rule s r && unnamed-rule s r && used-first s r && ec-rule s r && sc-rule s r && pt-rule s r
+
+-- how many PDs there are, if each keeps its rule
+abbrev pub countedPds : State → CountedPds
+countedPds s = if allBelow records (pd-rule s) then InTurn (pdsBelow s records) else OutOfTurn
 
 -- the PDs of an object table keep their rule, and are so many
 pub record Numbered (table : List ℕ) (pds : ℕ) : Type 0 where

@@ -8,7 +8,7 @@ ghost use Rattle.words.specs.Sizes.{records, recordWords};
 ghost use Rattle.interface.specs.Basics.{if_then_else_, allBelow};
 ghost use Rattle.interface.specs.Places.{PD, SM, objectTableWords, domainWord, objectAt, kindOf};
 ghost use Rattle.interface.specs.Damage.{fixed-record, interrupt-rule, unnamed-rule, used-first, pdsBelow, pd-rule, hasPd, isEc, ec-rule, sc-rule, pt-rule};
-ghost use Rattle.record_rules.specs.RecordKeeping.{recordsIn, clearFrom, hasWords, recordKeeps, Numbered};
+ghost use Rattle.record_rules.specs.RecordKeeping.{recordsIn, clearFrom, hasWords, recordKeeps, Numbered, countedPds};
 use descriptor::ObjectNumber;
 use words::sizes;
 
@@ -16,6 +16,12 @@ use words::sizes;
 const GREATEST_PRIORITY: u32 = 255;
 
 const GREATEST_QUANTUM: u32 = 1048575;
+
+// The number of PDs, if they number their domains in turn.
+pub enum CountedPds {
+    InTurn(u32),
+    OutOfTurn,
+}
 
 // A word of the record that a loop over the records has counted to.
 pub fn word_of(objects: &[u32], number: u32, index: usize) -> u32
@@ -205,21 +211,21 @@ fn pds_at(objects: &[u32], number: u32) -> u32
     0
 }
 
-// Whether each PD keeps its rule.
-pub fn pds_keep(objects: &[u32]) -> bool
+// How many PDs there are, if each keeps its rule.
+pub fn count_pds(objects: &[u32]) -> CountedPds
     requires { ⌜ length (now objects) ≡ objectTableWords ⌝ }
-    ensures { λ r. ⌜ r ≡ allBelow records (pd-rule (recordsIn (now (objects .entry)))) ⌝ }
+    ensures { λ r. ⌜ r ≡ countedPds (recordsIn (now (objects .entry))) ⌝ }
 {
     let mut before: u32 = 0;
     let mut at: u32 = 0;
     while at < sizes::RECORDS {
         if !pd_keeps(objects, at, before) {
-            return false;
+            return CountedPds::OutOfTurn;
         }
         before += pds_at(objects, at);
         at += 1;
     }
-    true
+    CountedPds::InTurn(before)
 }
 
 // Whether a semaphore's record keeps the rules: it is none of the fixed ones, has its count alone, and comes after a used one.

@@ -11,10 +11,13 @@ use Rattle.words.specs.Sizes.{stride, places, records}
 use Rattle.interface.specs.Basics.{allBelow}
 use Rattle.interface.specs.Places.{Cap, State, Tables, nothing, placeTableWords, objectTableWords, sized, shown}
 use Rattle.interface.specs.Damage.{fixed-place, pdsBelow, pd-rule, soundState, sound}
-use Rattle.interface.proofs.Basics.BoolLaws.{cases, and-left, and-right, both, same-test}
+use Rattle.interface.proofs.Basics.BoolLaws.{cases, and-left, and-right, both, same-test, not-both}
 use Rattle.interface.proofs.Basics.BelowLaws.{all-below-at, all-below}
 use Rattle.interface.proofs.Sound.Soundness.{OfRecords, OfPlaces, sound-facts, facts-sound}
-use Rattle.record_rules.specs.RecordKeeping.{recordsIn, recordKeeps, Numbered, Kept}
+use Rattle.record_rules.specs.RecordKeeping.{recordsIn, recordKeeps, Numbered, Kept, countedPds}
+use Rattle.record_rules.specs.declared.CountedPds.{CountedPds}
+use Rattle.record_rules.specs.declared.CountedPds.the-variants.{InTurn, OutOfTurn}
+use Rattle.record_rules.proofs.PdLaws.{turns-kept, turns-broken}
 use Rattle.record_rules.proofs.LoopLaws.{answered-yes, answered-no}
 use Rattle.record_rules.proofs.RecordParts.{caps-apart, record-parts}
 use Rattle.place_rules.specs.PlaceKeeping.{placesIn, placeKeeps}
@@ -76,10 +79,10 @@ module _ (place-table object-table : List ℕ) (answer : Bool) (asked : answer �
   objects-long = eqb-true (length object-table) objectTableWords (and-right places-right objects-right both-right)
 
   -- and PDs that keep their rule and have been counted
-  pub numbered-so : {pds : ℕ} (kept : Bool) → kept ≡ allBelow records (pd-rule (recordsIn object-table)) → not kept ≡ false →
-      pds ≡ pdsBelow (recordsIn object-table) records → Numbered object-table pds
-  numbered-so kept e f counted =
-      record { long = objects-long; in-turn = answered-yes kept (allBelow records (pd-rule (recordsIn object-table))) e f; counted = counted }
+  pub numbered-so : {pds : ℕ} (found : CountedPds) → found ≡ countedPds (recordsIn object-table) → found ≡ InTurn pds → Numbered object-table pds
+  numbered-so {pds} found is-found in-turn =
+      let kept = turns-kept (recordsIn object-table) pds (sym is-found ∙ in-turn) in
+      record { long = objects-long; in-turn = kept .0; counted = kept .1 }
 
 -- and other records that keep theirs
 pub kept-so : {table : List ℕ} {pds : ℕ} → Numbered table pds → (kept : Bool) → kept ≡ allBelow records (recordKeeps (recordsIn table)) → not kept ≡ false →
@@ -95,18 +98,18 @@ module _ (tables : Tables) where
   unfolding sound
   parts h = sound-parts (shown tables) (and-right (sized tables) (soundState (shown tables)) h)
 
+  pub pds-broken : (found : CountedPds) → found ≡ countedPds (recordsIn (tables .objects)) → found ≡ OutOfTurn → false ≡ sound tables
+  unfolding pdsBelow pd-rule
+  pds-broken found is-found out =
+      not-sound
+      (λ h.
+      not-both (allBelow records (pd-rule (recordsIn (tables .objects)))) (all-below records (pd-rule (recordsIn (tables .objects))) (parts h .pds))
+      (turns-broken (recordsIn (tables .objects)) (sym is-found ∙ out)))
+
   module _ (answer : Bool) where
     pub sizes-broken : answer ≡ sized tables → not answer ≡ true → false ≡ sound tables
     unfolding sound
     sizes-broken e f = not-sound (λ h. answered-no answer (sized tables) e f (and-left (sized tables) (soundState (shown tables)) h))
-
-    pub pds-broken : answer ≡ allBelow records (pd-rule (recordsIn (tables .objects))) → not answer ≡ true → false ≡ sound tables
-    unfolding pdsBelow pd-rule
-    pds-broken e f =
-        not-sound
-        (λ h.
-        answered-no answer (allBelow records (pd-rule (recordsIn (tables .objects)))) e f
-        (all-below records (pd-rule (recordsIn (tables .objects))) (parts h .pds)))
 
     pub records-broken : answer ≡ allBelow records (recordKeeps (recordsIn (tables .objects))) → not answer ≡ true → false ≡ sound tables
     records-broken e f =

@@ -3,6 +3,7 @@ ghost use mathlib.Core.Path.{_≡_};
 ghost use Rattle.interface.specs.Places.{Tables};
 ghost use Rattle.interface.specs.Damage.{sound, fault};
 use descriptor::Fault;
+use record_rules::CountedPds;
 use words::sizes;
 
 mod faults;
@@ -14,10 +15,9 @@ pub fn is_sound(places: &[u32], objects: &[u32]) -> bool
     if !boot::are_sized(places, objects) {
         return false;
     }
-    if !record_rules::pds_keep(objects) {
+    let CountedPds::InTurn(pds) = record_rules::count_pds(objects) else {
         return false;
-    }
-    let pds = record_rules::pds_below(objects, sizes::RECORDS);
+    };
     if !record_rules::records_keep(objects, pds) {
         return false;
     }

@@ -1,6 +1,6 @@
 -- The loop's invariant: the count is that of the PDs before the record, and each record passed keeps the rule. The measure is how many records are left.
 use Prim.Native.Nat.{_+_, _-_, _≤_}
-use mathlib.Core.Path.{_≡_}
+use mathlib.Core.Path.{_≡_, sym}
 use mathlib.Core.Bool.{true}
 use native.Mathlib.Omega.{arith}
 use borrow.Author.Needs.{needs}
@@ -9,9 +9,9 @@ use Rattle.interface.specs.Basics.{allBelow}
 use Rattle.interface.specs.Damage.{pdsBelow, pd-rule}
 use Rattle.record_rules.specs.RecordKeeping.{recordsIn}
 use Rattle.record_rules.proofs.LoopLaws.{all-below-none, all-below-more, all-below-done, all-below-broken}
-use Rattle.record_rules.proofs.PdLaws.{pds-small, no-pds, pds-next}
-use Rattle.record_rules.proofs.pds_keep.Statement.{statement}
-use Rattle.record_rules.proofs.pds_keep.Tie as tie
+use Rattle.record_rules.proofs.PdLaws.{pds-small, no-pds, pds-next, pds-end, in-turn, out-of-turn}
+use Rattle.record_rules.proofs.count_pds.Statement.{statement}
+use Rattle.record_rules.proofs.count_pds.Tie as tie
 
 abbrev Inv-loop : tie.InvT-loop
 Inv-loop objects before₀ at₀ before at = (at ≤ records) × (before ≡ pdsBelow (recordsIn objects) at) × (allBelow at (pd-rule (recordsIn objects)) ≡ true)
@@ -26,7 +26,7 @@ pd-keeps-requires : tie.Need-pd-keeps-requires Inv-loop μ-loop
 pd-keeps-requires c κs = search needs
 
 returns : tie.Need-returns Inv-loop μ-loop
-returns c = search (all-below-broken, needs)
+returns c = out-of-turn _ (sym (search (all-below-broken, needs)))
 
 pds-at-requires : tie.Need-pds-at-requires Inv-loop μ-loop
 pds-at-requires c κs = search needs
@@ -44,10 +44,12 @@ loop-again : tie.Need-loop-again Inv-loop μ-loop
 loop-again c = search (pds-next, all-below-more, needs)
 
 returns-2 : tie.Need-returns-2 Inv-loop μ-loop
-returns-2 c = search (all-below-done, needs)
+returns-2 c =
+    let loop = c .before .loop in
+    in-turn _ _ (sym (all-below-done _ _ (loop .at) (omega arith) (omega arith) (loop .inv .2))) (pds-end _ _ (loop .at) _ (omega arith) (omega arith) (loop .inv .1))
 
-pub pds-keep-spec : {M : Type 1} → statement M
-pds-keep-spec =
+pub count-pds-spec : {M : Type 1} → statement M
+count-pds-spec =
     tie.close
     (tie.spec
     Inv-loop
