@@ -8,6 +8,7 @@ ghost use Rattle.interface.specs.Outcomes.{callOf, outcome, Booted};
 ghost use Rattle.interface.specs.Census.{censusOf};
 ghost use Rattle.interface.specs.Demand.{fromBoot, GoesOn, ShowsHeirs};
 use descriptor::Reply;
+use service::CallWords;
 
 // Any hypercall: its number, the caller's EC number and the six words after it (a call takes as many as it has), the place table and the object table, the caller's message
 // block and the callee's. Damage is tested before all else.
@@ -35,20 +36,15 @@ pub fn hypercall(
         (record { reply = r; tables = tables (now (places .exit)) (now (objects .exit)); block = now (target .exit) }) ⌝ }
 {
     if soundness::is_sound(places, objects) {
-        return service::serve(
-            number,
-            caller,
+        let words = CallWords {
             first,
             second,
             third,
             fourth,
             fifth,
             sixth,
-            places,
-            objects,
-            source,
-            target,
-        );
+        };
+        return service::serve(number, caller, words, places, objects, source, target);
     }
     Reply::Damaged
 }
