@@ -10,7 +10,7 @@ ghost use Rattle.interface.specs.Outcomes.{callOf, Outcome, outcome, Booted};
 ghost use Rattle.interface.specs.Census.{CensusResult, censusOf};
 ghost use Rattle.interface.specs.Demand.{fromBoot, GoesOn, ShowsHeirs};
 ghost use Rattle.capabilities.specs.Callers.{Called};
-ghost use Rattle.kernel.specs.Admission.{isBuilt, admission};
+ghost use Rattle.kernel.specs.Admission.{isBuilt, admission, callWith};
 use descriptor::FoundObject;
 use descriptor::ObjectNumber;
 use descriptor::Reply;
@@ -33,6 +33,16 @@ pub const REVOKE: u32 = 7;
 pub const LOOKUP: u32 = 8;
 
 pub const SM_CTRL: u32 = 11;
+
+// The six words after a hypercall's number and its caller: a call takes as many as it has.
+pub struct CallWords {
+    pub first: u32,
+    pub second: u32,
+    pub third: u32,
+    pub fourth: u32,
+    pub fifth: u32,
+    pub sixth: u32,
+}
 
 // A caller that is an EC, or the refusal.
 enum Admitted {
@@ -68,12 +78,7 @@ fn admit(number: u32, caller: u32, places: &[u32], objects: &[u32]) -> Admitted
 fn dispatch(
     number: u32,
     caller: ObjectNumber,
-    first: u32,
-    second: u32,
-    third: u32,
-    fourth: u32,
-    fifth: u32,
-    sixth: u32,
+    words: CallWords,
     places: &mut [u32],
     objects: &mut [u32],
     source: &[u32],
@@ -82,29 +87,58 @@ fn dispatch(
     requires { ⌜ Called (now places) (now objects) (caller .0) ⌝ }
     ensures { λ r. ⌜
         record { reply = r; tables = tables (now (places .exit)) (now (objects .exit)); block = now (target .exit) } ≡
-        outcome (tables (now (places .entry)) (now (objects .entry)))
-        (callOf number (caller .0) first second third fourth fifth sixth (now (source .entry)) (now (target .entry))) ⌝ }
+        outcome (tables (now (places .entry)) (now (objects .entry))) (callWith number (caller .0) words (now (source .entry)) (now (target .entry))) ⌝ }
 {
     match number {
-        CALL => portals::call(caller, first, places, objects, source, target),
-        CREATE_PD => creations::create_pd(caller, first, second, third, places, objects),
-        CREATE_EC => creations::create_ec(caller, first, second, third, fourth, places, objects),
-        CREATE_SC => creations::create_sc(caller, first, second, third, fourth, places, objects),
-        CREATE_PT => creations::create_pt(
+        CALL => portals::call(caller, words.first, places, objects, source, target),
+        CREATE_PD => creations::create_pd(
             caller,
-            first,
-            second,
-            third,
-            fourth,
-            fifth,
-            sixth,
+            words.first,
+            words.second,
+            words.third,
             places,
             objects,
         ),
-        CREATE_SM => creations::create_sm(caller, first, second, third, places, objects),
-        REVOKE => revocation::revoke(caller, first, second, places, objects),
-        LOOKUP => lookup::look_up(caller, first, places, objects),
-        SM_CTRL => semaphores::sm_ctrl(caller, first, second, places, objects),
+        CREATE_EC => creations::create_ec(
+            caller,
+            words.first,
+            words.second,
+            words.third,
+            words.fourth,
+            places,
+            objects,
+        ),
+        CREATE_SC => creations::create_sc(
+            caller,
+            words.first,
+            words.second,
+            words.third,
+            words.fourth,
+            places,
+            objects,
+        ),
+        CREATE_PT => creations::create_pt(
+            caller,
+            words.first,
+            words.second,
+            words.third,
+            words.fourth,
+            words.fifth,
+            words.sixth,
+            places,
+            objects,
+        ),
+        CREATE_SM => creations::create_sm(
+            caller,
+            words.first,
+            words.second,
+            words.third,
+            places,
+            objects,
+        ),
+        REVOKE => revocation::revoke(caller, words.first, words.second, places, objects),
+        LOOKUP => lookup::look_up(caller, words.first, places, objects),
+        SM_CTRL => semaphores::sm_ctrl(caller, words.first, words.second, places, objects),
         _ => Reply::BadHyp,
     }
 }
@@ -113,12 +147,7 @@ fn dispatch(
 pub fn serve(
     number: u32,
     caller: u32,
-    first: u32,
-    second: u32,
-    third: u32,
-    fourth: u32,
-    fifth: u32,
-    sixth: u32,
+    words: CallWords,
     places: &mut [u32],
     objects: &mut [u32],
     source: &[u32],
@@ -127,27 +156,13 @@ pub fn serve(
     requires { ⌜ sound (tables (now places) (now objects)) ≡ true ⌝ }
     ensures { λ r. ⌜
         record { reply = r; tables = tables (now (places .exit)) (now (objects .exit)); block = now (target .exit) } ≡
-        outcome (tables (now (places .entry)) (now (objects .entry)))
-        (callOf number caller first second third fourth fifth sixth (now (source .entry)) (now (target .entry))) ⌝ }
+        outcome (tables (now (places .entry)) (now (objects .entry))) (callWith number caller words (now (source .entry)) (now (target .entry))) ⌝ }
     ensures { λ r. ⌜ sound (tables (now (places .exit)) (now (objects .exit))) ≡ true ⌝ }
 {
     let admitted = admit(number, caller, places, objects);
     match admitted {
         Admitted::Refused(reply) => reply,
-        Admitted::Ec(ec) => dispatch(
-            number,
-            ec,
-            first,
-            second,
-            third,
-            fourth,
-            fifth,
-            sixth,
-            places,
-            objects,
-            source,
-            target,
-        ),
+        Admitted::Ec(ec) => dispatch(number, ec, words, places, objects, source, target),
     }
 }
 
@@ -177,20 +192,15 @@ pub fn hypercall(
         (record { reply = r; tables = tables (now (places .exit)) (now (objects .exit)); block = now (target .exit) }) ⌝ }
 {
     if soundness::is_sound(places, objects) {
-        return serve(
-            number,
-            caller,
+        let words = CallWords {
             first,
             second,
             third,
             fourth,
             fifth,
             sixth,
-            places,
-            objects,
-            source,
-            target,
-        );
+        };
+        return serve(number, caller, words, places, objects, source, target);
     }
     Reply::Damaged
 }

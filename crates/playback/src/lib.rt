@@ -14,6 +14,7 @@ use descriptor::Reply;
 use journal::lines;
 use journal::lines::Line;
 use journal::records;
+use kernel::CallWords;
 use words::sizes;
 
 // What begins at a position of a journal: nothing, a kind that is none, a record that is short, or a whole one with its kind and the bytes of its body.
@@ -77,18 +78,21 @@ pub fn play(kind: u8, body: &[u8], places: &mut [u32], objects: &mut [u32]) -> R
     let fourth = records::body_word(body, 4);
     let fifth = records::body_word(body, 5);
     let sixth = records::body_word(body, 6);
+    let words = CallWords {
+        first,
+        second,
+        third,
+        fourth,
+        fifth,
+        sixth,
+    };
     if kind == records::CALL {
         records::source(body, &mut source);
         records::target(body, &mut target);
         return kernel::serve(
             kind as u32,
             caller,
-            first,
-            second,
-            third,
-            fourth,
-            fifth,
-            sixth,
+            words,
             places,
             objects,
             &source,
@@ -98,12 +102,7 @@ pub fn play(kind: u8, body: &[u8], places: &mut [u32], objects: &mut [u32]) -> R
     kernel::serve(
         kind as u32,
         caller,
-        first,
-        second,
-        third,
-        fourth,
-        fifth,
-        sixth,
+        words,
         places,
         objects,
         &source[0..0],

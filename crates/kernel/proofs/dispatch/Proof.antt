@@ -8,7 +8,7 @@ use Rattle.interface.specs.Creations.{createPd, createEc, createSc, createPt, c
 use Rattle.interface.specs.Revoke.{revoke}
 use Rattle.interface.specs.Lookup.{lookup}
 use Rattle.interface.specs.Semaphores.{smCtrl}
-use Rattle.interface.specs.Outcomes.{callOf}
+use Rattle.kernel.specs.Admission.{callWith}
 use Rattle.kernel.proofs.AnswerLaws.{unbuilt-outcome, ran-outcome}
 use Rattle.kernel.proofs.RuleLaws.{is-call, is-create-pd, is-create-ec, is-create-sc, is-create-pt, is-create-sm, is-revoke, is-lookup, is-sm-ctrl, is-not-built}
 use Rattle.kernel.proofs.RuleLaws.{create-pd-stays, create-ec-stays, create-sc-stays, create-pt-stays, create-sm-stays, revoke-stays, lookup-stays, sm-ctrl-stays, lookup-runs}
@@ -17,10 +17,7 @@ use Rattle.kernel.proofs.dispatch.Tie as tie
 
 -- the call that the arguments make
 abbrev callBy : tie.Start → Call
-callBy c =
-    let given = c .args in
-    callOf (given .number) (given .caller .0) (given .first) (given .second) (given .third) (given .fourth) (given .fifth) (given .sixth) (now (given .source))
-    (now (given .target))
+callBy c = let given = c .args in callWith (given .number) (given .caller .0) (given .words) (now (given .source)) (now (given .target))
 
 call-requires : tie.Need-call-requires
 call-requires c κs = search needs

@@ -3,17 +3,14 @@ use mathlib.Core.Path.{_≡_, sym, _∙_}
 use denote.Ref.{now}
 use borrow.Author.Needs.{needs}
 use Rattle.interface.specs.Verdicts.{Call}
-use Rattle.interface.specs.Outcomes.{callOf}
+use Rattle.kernel.specs.Admission.{callWith}
 use Rattle.kernel.proofs.AnswerLaws.{served, not-admitted, admitted-caller, admitted-ec}
 use Rattle.kernel.proofs.serve.Statement.{statement}
 use Rattle.kernel.proofs.serve.Tie as tie
 
 -- the call that the arguments make
 abbrev callBy : tie.Start → Call
-callBy c =
-    let given = c .args in
-    callOf (given .number) (given .caller) (given .first) (given .second) (given .third) (given .fourth) (given .fifth) (given .sixth) (now (given .source))
-    (now (given .target))
+callBy c = let given = c .args in callWith (given .number) (given .caller) (given .words) (now (given .source)) (now (given .target))
 
 admit-requires : tie.Need-admit-requires
 admit-requires c κs = search needs
