@@ -1,7 +1,7 @@
 // Walks along parent links: the nearest ancestor among some places, revocation, and the census.
 ghost use mathlib.Core.Path.{_≡_};
 ghost use Prim.Native.Nat.{_+_, _%_, _<_, _≤_};
-ghost use mathlib.Core.List.{_∷_, _++_};
+ghost use mathlib.Core.List.{_++_};
 ghost use lib.ListN.{length, drop};
 ghost use Rattle.words.specs.Sizes.{spaces, places, spaceOf};
 ghost use Rattle.interface.specs.Basics.{put};

@@ -59,7 +59,8 @@ loop-again c =
 same-length : tie.Need-same-length Inv-loop μ-loop
 same-length c =
     let loop = c .before in
-    cut-sized _ _ _ _ _ _ _ (loop .loop .inv .1 _ (marked-in (loop .before .before .before .space .ensures) (loop .before .marks .ensures))) ∙ sym (loop .before .before .before .before .before .pre .0)
+    let told = marked-in (loop .before .before .before .space .ensures) (loop .before .marks .ensures) in
+    cut-sized _ _ _ _ _ _ _ (loop .loop .inv .1 _ told) ∙ sym (loop .before .before .before .before .before .pre .0)
 
 returns : tie.Need-returns Inv-loop μ-loop
 returns c =
