@@ -6,10 +6,9 @@ use mathlib.Core.List.{List, [], _∷_, _++_}
 use native.Mathlib.Nat.{add-assoc, add-zero}
 use native.Mathlib.Numerals.{add-one}
 use native.Mathlib.Omega.{arith}
-use Rattle.words.specs.Sizes.{domains, spaces, selectors, placeOf, places}
+use Rattle.words.specs.Sizes.{domains, selectors, placeOf}
 use Rattle.words.specs.Ranges.{rounded}
 use Rattle.words.proofs.PlaceLaws.{is-place, space-back}
-use Rattle.words.proofs.RangeLaws.{ends-inside}
 use Rattle.descriptor.specs.declared.Range.{Range}
 use Rattle.interface.specs.Basics.{if_then_else_, listed}
 use Rattle.interface.specs.Places.{State, capAt, capTable}

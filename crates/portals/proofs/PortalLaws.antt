@@ -19,7 +19,6 @@ use Rattle.interface.specs.Message.{payloadFits, transfer, Moved}
 use Rattle.interface.specs.PortalCalls.{portalCall}
 use Rattle.interface.proofs.Sound.SoundFacts.{portal-ec, permitted-kind, ec-small, home, ec-home}
 use Rattle.tree.specs.Walks.{placesOnly}
-use Rattle.blocks.specs.Fitting.{Blocks}
 use Rattle.transfer.specs.Turns.{Transferred}
 use Rattle.transfer.proofs.UnseenLaws.{transferred-seen}
 use Rattle.capabilities.specs.Callers.{Called}

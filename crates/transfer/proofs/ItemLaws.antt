@@ -1,27 +1,20 @@
 -- Laws of one typed item: the domain that it is delegated from, and what each way out of the code says of the definition.
-use Prim.Native.Nat.{ℕ, zero, suc, _+_, _%_, _^_, _≤_, _<_, min}
-use mathlib.Core.Path.{_≡_, refl, sym, subst, _∙_}
+use Prim.Native.Nat.{ℕ, _+_, _%_, _^_, _≤_}
+use mathlib.Core.Path.{_≡_, refl, sym, _∙_}
 use mathlib.Core.Bool.{true, false, _&&_}
 use mathlib.Core.List.{List, []}
-use native.Mathlib.Nat.{add-zero}
 use native.Mathlib.Omega.{arith}
-use lib.Bits.{and-le-l}
 use lib.Dec.{eqb}
 use borrow.Author.Tests.{eq-eqb, ne-eqb}
 use Rattle.words.specs.Sizes.{object, selectors, placeOf}
-use Rattle.words.specs.Ranges.{rounded}
-use Rattle.words.proofs.RangeLaws.{keeps-aligned, ends-inside}
+use Rattle.words.proofs.RangeLaws.{ends-inside}
 use Rattle.descriptor.specs.declared.Range.{Range}
-use Rattle.descriptor.specs.declared.Reading.{Reading}
 use Rattle.descriptor.specs.declared.Match.{Match}
 use Rattle.descriptor.specs.declared.Match.the-variants.{Both, Neither}
 use Rattle.descriptor.specs.declared.Received.{Received}
-use Rattle.descriptor.specs.declared.Received.the-variants.{NullItem, Shows}
 use Rattle.descriptor.specs.declared.Reason.{Reason}
-use Rattle.descriptor.specs.declared.Reason.the-variants.{TranslationBroke}
-use Rattle.descriptor.specs.Descriptors.{kept, Proper}
-use Rattle.descriptor.proofs.DescriptorLaws.{reading-kept, matched-good, good-proper, proper-end}
-use Rattle.interface.specs.Places.{Cap, State, capAt}
+use Rattle.descriptor.proofs.DescriptorLaws.{proper-end}
+use Rattle.interface.specs.Places.{State}
 use Rattle.interface.specs.Boot.{hypervisor, root}
 use Rattle.interface.specs.RangeDescriptors.{describe, reading, matched}
 use Rattle.interface.specs.Effects.{filled}

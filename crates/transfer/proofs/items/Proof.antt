@@ -8,7 +8,8 @@ use Rattle.transfer.proofs.items.Statement.{statement}
 use Rattle.transfer.proofs.items.Tie as tie
 
 abbrev Inv-loop : tie.InvT-loop
-Inv-loop table₀ sender receiver source upper₀ typed translating delegating top filled₀ i₀ table upper filled i = Moving table₀ sender receiver source upper₀ typed translating delegating table upper filled i
+Inv-loop table₀ sender receiver source upper₀ typed translating delegating top filled₀ i₀ table upper filled i =
+    Moving table₀ sender receiver source upper₀ typed translating delegating table upper filled i
 
 abbrev μ-loop : tie.MeasureT-loop
 μ-loop table₀ sender receiver source upper₀ typed translating delegating top filled₀ i₀ table upper filled i = typed - i
