@@ -24,11 +24,11 @@ use Rattle.interface.specs.Rules.{Runs}
 use Rattle.objects.specs.Records.{recordsIn, fiveWords}
 use Rattle.objects.proofs.RecordTableLaws.{two-words, four-words}
 use Rattle.capabilities.specs.Callers.{Called}
-use Rattle.creations.specs.declared.Creation.{Creation}
-use Rattle.creations.specs.declared.Checked.{Checked}
-use Rattle.creations.specs.declared.Checked.the-variants.{Takes, Refused}
-use Rattle.creations.specs.Creating.{Decides, Created, Hands, Initial}
-use Rattle.creations.proofs.CreatingLaws.{hands-none, passes, Follows, follows-rule, refused, granted}
+use Rattle.creating.specs.declared.Creation.{Creation}
+use Rattle.creating.specs.declared.Checked.{Checked}
+use Rattle.creating.specs.declared.Checked.the-variants.{Takes, Refused}
+use Rattle.creating.specs.Creating.{Decides, Created, Hands, Initial}
+use Rattle.creating.proofs.CreatingLaws.{hands-none, passes, Follows, follows-rule, refused, granted}
 
 -- a creation with its tests as the code has them
 abbrev creationOf : (kind : ℕ) (bindable onCpu good left : Bool) → Creation

@@ -1,151 +1,21 @@
-// The five CREATE calls, each on sound tables. They share their checks and the storing of the new object.
+// The five CREATE calls, each on sound tables.
 ghost use mathlib.Core.Path.{_≡_};
-ghost use Prim.Native.Nat.{_^_, _<_, _≤_};
-ghost use Rattle.words.specs.Sizes.{domains, object, records};
-ghost use Rattle.descriptor.specs.Descriptors.{Proper};
-ghost use Rattle.interface.specs.Places.{SM, tables, view};
+ghost use Rattle.interface.specs.Places.{tables};
 ghost use Rattle.interface.specs.Verdicts.{Call};
-ghost use Rattle.interface.specs.Creations.{handOn, initialGood, initialGives, createPd, createEc, createSc, createPt, createSm};
+ghost use Rattle.interface.specs.Creations.{createPd, createEc, createSc, createPt, createSm};
 ghost use Rattle.interface.specs.Rules.{Runs};
-ghost use Rattle.places.specs.Table.{Sized as SizedPlaces};
-ghost use Rattle.objects.specs.Records.{Sized as SizedObjects, fiveWords};
 ghost use Rattle.capabilities.specs.Callers.{Called};
-ghost use Rattle.creations.specs.Creating.{Decides, Created, Hands, Initial};
-use descriptor::Cap;
+use creating::Checked;
+use creating::Creation;
 use descriptor::Descriptor;
-use descriptor::FoundObject;
 use descriptor::ObjectNumber;
-use descriptor::Place;
-use descriptor::Range;
-use descriptor::Reading;
 use descriptor::Reply;
-use words::ranges;
 use words::sizes;
 
 // The numbers of the bits that permit binding an SC and a PT to an EC.
 const BIND_SC: u32 = 1;
 
 const BIND_PT: u32 = 2;
-
-// The kind of a creation, and what its own tests came to.
-struct Creation {
-    kind: u32,
-    bindable: bool,
-    cpu_good: bool,
-    parameters_good: bool,
-    domain_left: bool,
-}
-
-// What the checks of a creation come to: the record that the new object takes, or a refusal.
-enum Checked {
-    Takes(ObjectNumber),
-    Refused(Reply),
-}
-
-// The checks that all creations have, in their order.
-fn check(
-    places: &[u32],
-    objects: &[u32],
-    domain: u32,
-    selector: u32,
-    pd: u32,
-    new: Creation,
-) -> Checked
-    requires { ⌜ SizedPlaces (now places) × SizedObjects (now objects) × (domain < domains) × (0 < new .kind) × (new .kind ≤ SM) ⌝ }
-    ensures { λ r. ⌜ Decides (view (now (places .entry)) (now (objects .entry))) domain selector pd new r ⌝ }
-{
-    if places::is_live(places::load(places, capabilities::object_place(domain, selector))) {
-        return Checked::Refused(Reply::BadCap);
-    }
-    if !capabilities::is_permitted(
-        places,
-        objects,
-        capabilities::object_place(domain, pd),
-        objects::PD,
-        new.kind - 1,
-    ) {
-        return Checked::Refused(Reply::BadCap);
-    }
-    if !new.bindable {
-        return Checked::Refused(Reply::BadCap);
-    }
-    if !new.cpu_good {
-        return Checked::Refused(Reply::BadCpu);
-    }
-    if !new.parameters_good {
-        return Checked::Refused(Reply::BadPar);
-    }
-    let FoundObject::Numbered(number) = objects::free_record(objects) else {
-        return Checked::Refused(Reply::NoRoom);
-    };
-    if !new.domain_left {
-        return Checked::Refused(Reply::NoRoom);
-    }
-    Checked::Takes(number)
-}
-
-// Stores a new object in its record, and gives its place the greatest permissions and no parent.
-fn create(
-    places: &mut [u32],
-    objects: &mut [u32],
-    domain: u32,
-    selector: u32,
-    number: ObjectNumber,
-    kind: u32,
-    first: u32,
-    second: u32,
-    third: u32,
-    fourth: u32,
-)
-    requires { ⌜ SizedPlaces (now places) × SizedObjects (now objects) × (domain < domains) × (number .0 < records) × (kind ≤ SM) ⌝ }
-    ensures { λ r. ⌜ Created (tables (now (places .entry)) (now (objects .entry))) (tables (now (places .exit)) (now (objects .exit))) domain selector (number .0) (fiveWords kind first second third fourth) ⌝ }
-{
-    objects::make(objects, number, kind, first, second, third, fourth);
-    places::store(
-        places,
-        capabilities::object_place(domain, selector),
-        places::without_parent(number.number(), objects::greatest_of(kind)),
-    );
-}
-
-// Delegates each place of a range of object selectors to the same selector of another domain.
-fn hand_on(table: &mut [u32], from: u32, to: u32, range: Range)
-    requires { ⌜ SizedPlaces (now table) × (from < domains) × (to < domains) × Proper range × (range .space ≡ object) ⌝ }
-    ensures { λ r. ⌜ Hands (handOn from to (range .base) (2 ^ range .order) (range .mask)) (now (table .entry)) (now (table .exit)) ⌝ }
-{
-    let size = ranges::size(range.order());
-    let mut offset = 0u32;
-    while offset < size {
-        let selector = range.at(offset);
-        let destination = Place::of(to, sizes::OBJECT, selector);
-        let source = Place::of(from, sizes::OBJECT, selector);
-        places::give(table, destination, source, range.mask());
-        offset += 1;
-    }
-}
-
-// Whether an initial descriptor is null or of objects.
-fn is_initial(initial: Reading) -> bool
-    ensures { λ r. ⌜ r ≡ initialGood initial ⌝ }
-{
-    match initial {
-        Reading::Null => true,
-        Reading::Malformed => false,
-        Reading::Good(range) => range.space() == sizes::OBJECT,
-    }
-}
-
-// Delegates an initial range from one domain to another.
-fn give_initial(table: &mut [u32], from: u32, to: u32, initial: Reading)
-    requires { ⌜ SizedPlaces (now table) × (from < domains) × (to < domains) × Initial initial ⌝ }
-    ensures { λ r. ⌜ Hands (initialGives from to initial) (now (table .entry)) (now (table .exit)) ⌝ }
-{
-    match initial {
-        Reading::Null => {}
-        Reading::Malformed => {}
-        Reading::Good(range) => hand_on(table, from, to, range),
-    }
-}
 
 // CREATE_PD: a PD of the next domain, to which the initial range is delegated before the new place is filled.
 pub fn create_pd(
@@ -166,14 +36,14 @@ pub fn create_pd(
         kind: objects::PD,
         bindable: true,
         cpu_good: true,
-        parameters_good: is_initial(range),
+        parameters_good: creating::is_initial(range),
         domain_left: next < sizes::DOMAINS,
     };
-    match check(places, objects, domain, selector, pd, new) {
+    match creating::check(places, objects, domain, selector, pd, new) {
         Checked::Refused(reply) => reply,
         Checked::Takes(number) => {
-            give_initial(places, domain, next, range);
-            create(
+            creating::give_initial(places, domain, next, range);
+            creating::create(
                 places,
                 objects,
                 domain,
@@ -211,7 +81,7 @@ pub fn create_ec(
         parameters_good: true,
         domain_left: true,
     };
-    match check(places, objects, domain, selector, pd, new) {
+    match creating::check(places, objects, domain, selector, pd, new) {
         Checked::Refused(reply) => reply,
         Checked::Takes(number) => {
             let named = ObjectNumber::named_by(places::load(
@@ -219,7 +89,7 @@ pub fn create_ec(
                 capabilities::object_place(domain, pd),
             ));
             let home = objects::load(objects, named, objects::DOMAIN);
-            create(
+            creating::create(
                 places,
                 objects,
                 domain,
@@ -260,11 +130,11 @@ pub fn create_sc(
         parameters_good: (priority != 0) & (quantum != 0),
         domain_left: true,
     };
-    match check(places, objects, domain, selector, pd, new) {
+    match creating::check(places, objects, domain, selector, pd, new) {
         Checked::Refused(reply) => reply,
         Checked::Takes(number) => {
             let named = ObjectNumber::named_by(places::load(places, bound));
-            create(
+            creating::create(
                 places,
                 objects,
                 domain,
@@ -305,11 +175,11 @@ pub fn create_pt(
         parameters_good: true,
         domain_left: true,
     };
-    match check(places, objects, domain, selector, pd, new) {
+    match creating::check(places, objects, domain, selector, pd, new) {
         Checked::Refused(reply) => reply,
         Checked::Takes(number) => {
             let named = ObjectNumber::named_by(places::load(places, bound));
-            create(
+            creating::create(
                 places,
                 objects,
                 domain,
@@ -346,10 +216,10 @@ pub fn create_sm(
         parameters_good: true,
         domain_left: true,
     };
-    match check(places, objects, domain, selector, pd, new) {
+    match creating::check(places, objects, domain, selector, pd, new) {
         Checked::Refused(reply) => reply,
         Checked::Takes(number) => {
-            create(
+            creating::create(
                 places,
                 objects,
                 domain,

@@ -1,7 +1,7 @@
 -- The checks refuse the creation, or it is granted and takes its steps.
 use borrow.Author.Needs.{needs}
 use Rattle.capabilities.proofs.CallerLaws.{sized-places, sized-objects}
-use Rattle.creations.proofs.CreatingLaws.{takes-small, pd-small}
+use Rattle.creating.proofs.CreatingLaws.{takes-small, pd-small}
 use Rattle.creations.proofs.CallLaws.{ec-refused, ec-granted}
 use Rattle.creations.proofs.create_ec.Statement.{statement}
 use Rattle.creations.proofs.create_ec.Tie as tie

@@ -3,9 +3,9 @@ use mathlib.Core.Path.{_∙_}
 use native.Mathlib.Omega.{arith}
 use borrow.Author.Needs.{needs}
 use Rattle.capabilities.proofs.CallerLaws.{sized-places, sized-objects}
-use Rattle.creations.proofs.CreatingLaws.{takes-small}
+use Rattle.creating.proofs.CreatingLaws.{takes-small}
 use Rattle.creations.proofs.CallLaws.{next-domain-small, initial-fits, pd-refused, pd-granted}
-use Rattle.creations.proofs.InitialLaws.{next-fits}
+use Rattle.creating.proofs.InitialLaws.{next-fits}
 use Rattle.creations.proofs.create_pd.Statement.{statement}
 use Rattle.creations.proofs.create_pd.Tie as tie
 

@@ -4,7 +4,7 @@ use native.Mathlib.Omega.{arith}
 use borrow.Author.Needs.{needs}
 use Rattle.interface.specs.Places.{bindPtBit}
 use Rattle.capabilities.proofs.CallerLaws.{sized-places, sized-objects}
-use Rattle.creations.proofs.CreatingLaws.{takes-small, bound-small}
+use Rattle.creating.proofs.CreatingLaws.{takes-small, bound-small}
 use Rattle.creations.proofs.CallLaws.{pt-refused, pt-granted}
 use Rattle.creations.proofs.create_pt.Statement.{statement}
 use Rattle.creations.proofs.create_pt.Tie as tie

@@ -4,7 +4,7 @@ use native.Mathlib.Omega.{arith}
 use borrow.Author.Needs.{needs}
 use Rattle.interface.specs.Places.{bindScBit}
 use Rattle.capabilities.proofs.CallerLaws.{sized-places, sized-objects}
-use Rattle.creations.proofs.CreatingLaws.{takes-small, bound-small}
+use Rattle.creating.proofs.CreatingLaws.{takes-small, bound-small}
 use Rattle.creations.proofs.CallLaws.{sc-refused, sc-granted}
 use Rattle.creations.proofs.create_sc.Statement.{statement}
 use Rattle.creations.proofs.create_sc.Tie as tie
@@ -76,7 +76,8 @@ returns-2 c =
     let asked = checked .before .before .before in
     let bound = asked .before .before .before in
     λ call is-caller is-first is-second is-third is-fourth.
-    sc-granted (bound .before .before .before .before .before .before .pre) (bound .before .domain .ensures .0) is-caller is-first is-second is-third is-fourth (bound .before .before .before .before .before .before .fits .qpd .fits)
+    sc-granted (bound .before .before .before .before .before .before .pre) (bound .before .domain .ensures .0) is-caller is-first is-second is-third is-fourth
+    (bound .before .before .before .before .before .before .fits .qpd .fits)
     (bound .object-place .ensures .0) (asked .is-permitted .ensures) (checked .check .ensures) (loaded .before .before .before .number .given .1)
     (loaded .load .ensures) (c .before .before .before .before .before .number2 .ensures ∙ named .named-by .ensures) (c .before .before .before .before .create .ensures)
 

@@ -17,8 +17,8 @@ use Rattle.interface.specs.Effects.{make, hold}
 use Rattle.interface.specs.Verdicts.{Call, Verdict, grant, require_else_then_, callerDomain}
 use Rattle.interface.specs.Creations.{newPlace, pdPlace, freeRecord, creation}
 use Rattle.interface.specs.Creations.{Creation as Rule}
-use Rattle.creations.specs.declared.Checked.the-variants.{Takes, Refused}
-use Rattle.creations.specs.Creating.{Judged, passed, failed}
+use Rattle.creating.specs.declared.Checked.the-variants.{Takes, Refused}
+use Rattle.creating.specs.Creating.{Judged, passed, failed}
 
 -- the rule's last check, and all that follow those of the new place and of the PD's capability
 abbrev pub lastCheck : State → Call → Rule → Verdict

@@ -18,10 +18,10 @@ use Rattle.interface.proofs.Tables.TurnLaws.{run-append}
 use Rattle.objects.specs.Records.{fiveWords}
 use Rattle.capabilities.specs.Callers.{Called}
 use Rattle.capabilities.proofs.CallerLaws.{named-record, refused-runs, granted-runs}
-use Rattle.creations.specs.declared.Creation.{Creation}
-use Rattle.creations.specs.declared.Checked.{Checked}
-use Rattle.creations.specs.declared.Checked.the-variants.{Takes, Refused}
-use Rattle.creations.specs.Creating.{ruleOf, Passes, Judged, passed, failed, Decides, Created, Hands}
+use Rattle.creating.specs.declared.Creation.{Creation}
+use Rattle.creating.specs.declared.Checked.{Checked}
+use Rattle.creating.specs.declared.Checked.the-variants.{Takes, Refused}
+use Rattle.creating.specs.Creating.{ruleOf, Passes, Judged, passed, failed, Decides, Created, Hands}
 
 -- storing an object's words in its record and filling its place
 pub created : {places objects placesAfter objectsAfter : List ℕ} {domain selector place number named kind first second third fourth permissions : ℕ} {cap : Cap} →

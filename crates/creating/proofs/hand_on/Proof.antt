@@ -8,11 +8,11 @@ use Rattle.descriptor.proofs.DescriptorLaws.{proper-order}
 use Rattle.interface.specs.Basics.{listed}
 use Rattle.interface.specs.Creations.{handOn}
 use Rattle.places.specs.Table.{Sized}
-use Rattle.creations.specs.Creating.{Hands}
-use Rattle.creations.proofs.CreatingLaws.{hands-none}
-use Rattle.creations.proofs.InitialLaws.{hands-more}
-use Rattle.creations.proofs.hand_on.Statement.{statement}
-use Rattle.creations.proofs.hand_on.Tie as tie
+use Rattle.creating.specs.Creating.{Hands}
+use Rattle.creating.proofs.CreatingLaws.{hands-none}
+use Rattle.creating.proofs.InitialLaws.{hands-more}
+use Rattle.creating.proofs.hand_on.Statement.{statement}
+use Rattle.creating.proofs.hand_on.Tie as tie
 
 abbrev Inv-loop : tie.InvT-loop
 Inv-loop table₀ from to range size offset₀ table offset =
@@ -66,7 +66,8 @@ loop-again c =
       turn .loop .inv .1,
       search needs,
       hands-more (start .args .from) (start .args .to) (range .base) (range .mask) (turn .loop .offset) (turn .loop .inv .2) (omega (arith, selector-small selected))
-          (selected .at .ensures .0) (c .before .before .before .before .before .before .of .ensures) (c .before .before .before .before .before .of2 .ensures) (c .before .before .before .mask .ensures) (turn .loop .inv .3) (c .before .before .give .ensures),
+          (selected .at .ensures .0) (c .before .before .before .before .before .before .of .ensures)
+          (c .before .before .before .before .before .of2 .ensures) (c .before .before .before .mask .ensures) (turn .loop .inv .3) (c .before .before .give .ensures),
     )
 
 same-length : tie.Need-same-length Inv-loop μ-loop

@@ -7,10 +7,10 @@ use Rattle.interface.specs.Places.{view}
 use Rattle.interface.specs.Effects.{Effect}
 use Rattle.interface.specs.Verdicts.{Call, callerDomain}
 use Rattle.interface.specs.Creations.{freeRecord}
-use Rattle.creations.specs.Creating.{ruleOf}
-use Rattle.creations.proofs.CheckLaws.{GoesOn, ownChecks, new-live, not-by-pd, goes-on, not-bindable, not-on-cpu, not-good, no-record, no-domain, has-room}
-use Rattle.creations.proofs.check.Statement.{statement}
-use Rattle.creations.proofs.check.Tie as tie
+use Rattle.creating.specs.Creating.{ruleOf}
+use Rattle.creating.proofs.CheckLaws.{GoesOn, ownChecks, new-live, not-by-pd, goes-on, not-bindable, not-on-cpu, not-good, no-record, no-domain, has-room}
+use Rattle.creating.proofs.check.Statement.{statement}
+use Rattle.creating.proofs.check.Tie as tie
 
 object-place-requires : tie.Need-object-place-requires
 object-place-requires c κs = search needs

@@ -16,9 +16,9 @@ use Rattle.interface.specs.Effects.{Effect, make, hold, run}
 use Rattle.interface.specs.Verdicts.{Call, refuse, grant, callerDomain}
 use Rattle.interface.specs.Creations.{newPlace, pdPlace, creation, initialGood}
 use Rattle.interface.specs.Creations.{Creation as Rule}
-use Rattle.creations.specs.declared.Creation.{Creation}
-use Rattle.creations.specs.declared.Checked.{Checked}
-use Rattle.creations.specs.declared.Checked.the-variants.{Takes, Refused}
+use Rattle.creating.specs.declared.Creation.{Creation}
+use Rattle.creating.specs.declared.Checked.{Checked}
+use Rattle.creating.specs.declared.Checked.the-variants.{Takes, Refused}
 
 -- a creation's checks with its words and delegations: what its rule has of its own
 abbrev pub ruleOf : Creation → List ℕ → List Effect → Rule

@@ -1,8 +1,8 @@
 -- The record is made and the place filled: the rule's last steps.
 use borrow.Author.Needs.{needs}
-use Rattle.creations.proofs.CreatingLaws.{created}
-use Rattle.creations.proofs.create.Statement.{statement}
-use Rattle.creations.proofs.create.Tie as tie
+use Rattle.creating.proofs.CreatingLaws.{created}
+use Rattle.creating.proofs.create.Statement.{statement}
+use Rattle.creating.proofs.create.Tie as tie
 
 make-requires : tie.Need-make-requires
 make-requires c κs = search needs

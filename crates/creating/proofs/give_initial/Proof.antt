@@ -1,9 +1,9 @@
 -- A null or malformed descriptor hands on nothing, and any other its range.
 use borrow.Author.Needs.{needs}
-use Rattle.creations.proofs.CreatingLaws.{hands-none}
-use Rattle.creations.proofs.InitialLaws.{initial-proper, initial-object}
-use Rattle.creations.proofs.give_initial.Statement.{statement}
-use Rattle.creations.proofs.give_initial.Tie as tie
+use Rattle.creating.proofs.CreatingLaws.{hands-none}
+use Rattle.creating.proofs.InitialLaws.{initial-proper, initial-object}
+use Rattle.creating.proofs.give_initial.Statement.{statement}
+use Rattle.creating.proofs.give_initial.Tie as tie
 
 enum-told : tie.Need-enum-told
 enum-told c = search needs

@@ -1,0 +1,2 @@
+-- What the contracts of what the creations share cite.
+pub mod Creating

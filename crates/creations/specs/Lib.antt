@@ -1,2 +1,0 @@
--- What the contracts of the creations' functions cite.
-pub mod Creating
