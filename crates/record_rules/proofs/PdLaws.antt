@@ -18,7 +18,6 @@ use Rattle.interface.proofs.PlaceFacts.{pd-numbered}
 use Rattle.interface.proofs.Soundness.{OfRecords}
 use Rattle.interface.proofs.SoundFacts.{has-pd}
 use Rattle.record_rules.specs.RecordKeeping.{recordsIn, countedPds, Numbered}
-use Rattle.record_rules.specs.declared.CountedPds.{CountedPds}
 use Rattle.record_rules.specs.declared.CountedPds.the-variants.{InTurn, OutOfTurn}
 use Rattle.record_rules.proofs.LoopLaws.{count-below-small, any-below-more}
 

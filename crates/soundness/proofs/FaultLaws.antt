@@ -12,7 +12,8 @@ use Rattle.words.specs.Sizes.{places, records}
 use Rattle.descriptor.specs.declared.Fault.the-variants.{NoFault, Lengths, AtRecord, AtPlace}
 use Rattle.interface.specs.Basics.{allBelow}
 use Rattle.interface.specs.Places.{State, Tables, sized, shown}
-use Rattle.interface.specs.Damage.{Rule, of-records, fixed-record, interrupt-rule, unnamed-rule, used-first, pdsBelow, pd-rule, hasPd, isEc, ec-rule, sc-rule, pt-rule, rulesOfDamage, firstFault, fault}
+use Rattle.interface.specs.Damage.{Rule, of-records, fixed-record, interrupt-rule, unnamed-rule, used-first, pdsBelow, pd-rule, hasPd, isEc, ec-rule, sc-rule, pt-rule}
+use Rattle.interface.specs.Damage.{rulesOfDamage, firstFault, fault}
 use Rattle.interface.proofs.BelowLaws.{all-below-at}
 use Rattle.record_rules.specs.RecordKeeping.{recordsIn}
 use Rattle.soundness.specs.RuleNumbers.{lowestFailing, firstRule, lastRule, ruleOf}

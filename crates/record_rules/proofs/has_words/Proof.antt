@@ -22,7 +22,15 @@ word-of-requires-5 c κs = search needs
 
 returns : tie.Need-returns
 unfolding hasWords allBelow
-returns c = let b = c .before .before .before .before in rw (b .word-of .ensures, c .before .before .before .word-of2 .ensures, c .before .before .word-of3 .ensures, c .before .word-of4 .ensures, c .word-of5 .ensures)
+returns c =
+    let third = c .before .before in
+    rw (
+      third .before .before .word-of .ensures,
+      third .before .word-of2 .ensures,
+      third .word-of3 .ensures,
+      c .before .word-of4 .ensures,
+      c .word-of5 .ensures,
+    )
 
 pub has-words-spec : {M : Type 1} → statement M
 has-words-spec =

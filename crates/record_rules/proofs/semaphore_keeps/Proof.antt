@@ -24,7 +24,8 @@ kind-of-requires c κs = search needs
 
 returns-2 : tie.Need-returns-2
 returns-2 c =
-    semaphore-late _ _ (c .before .before .before .before .before .before .pre .2) _ _ _ _ (c .before .before .before .before .if1 .left) (c .before .before .before .word-of .ensures) (c .before .before .word-of2 .ensures) (c .before .word-of3 .ensures)
+    semaphore-late _ _ (c .before .before .before .before .before .before .pre .2) _ _ _ _ (c .before .before .before .before .if1 .left)
+    (c .before .before .before .word-of .ensures) (c .before .before .word-of2 .ensures) (c .before .word-of3 .ensures)
     (c .kind-of .ensures)
 
 pub semaphore-keeps-spec : {M : Type 1} → statement M
