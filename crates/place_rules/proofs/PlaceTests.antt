@@ -5,10 +5,10 @@ use mathlib.Core.Bool.{Bool, true, false, not, _&&_, _||_, and-false}
 use mathlib.Core.List.{List}
 use native.Mathlib.Nat.{dvd-of-mod-eq-zero}
 use native.Mathlib.Omega.{arith}
-use lib.Bits.{bitAnd, bitOr, bitXor, and-le-l, and-le-r, or-add-and, xor-add-and, xor-self}
+use lib.Bits.{bitOr, bitXor, and-le-l, and-le-r, or-add-and, xor-add-and, xor-self}
 use lib.Dec.{eqb, leb, ltb}
 use borrow.Author.Tests.{ltb-true, ltb-false, leb-true, leb-false, lt-ltb, le-ltb, le-leb, lt-leb, eqb-true, eqb-false, eq-eqb, ne-eqb, not-false}
-use Rattle.words.specs.Sizes.{memory, io, object, spaces, pageOrder, selectors, start, stride, placeOf, domainOf, spaceOf, selectorOf, places, records, greatestDepth}
+use Rattle.words.specs.Sizes.{memory, io, object, spaces, pageOrder, selectors, start, stride, placeOf, domainOf, spaceOf, places, records, greatestDepth}
 use Rattle.words.specs.Permissions.{within}
 use Rattle.words.proofs.PlaceLaws.{domain-back, space-back, selector-back, made-so, selector-small, run-domain, run-space}
 use Rattle.descriptor.specs.declared.Place.{Place}
@@ -16,7 +16,6 @@ use Rattle.descriptor.specs.declared.FoundPlace.{FoundPlace}
 use Rattle.descriptor.specs.declared.FoundPlace.the-variants.{At, Nowhere}
 use Rattle.descriptor.specs.Numbers.{linked}
 use Rattle.descriptor.proofs.DescriptorLaws.{linked-out, linked-inside}
-use Rattle.interface.specs.Basics.{if_then_else_}
 use Rattle.interface.specs.Places.{Cap, State, Tables, live, nothing, parentless, free, SC, SM, objectAt, shown, kindOf, greatestOf, greatest}
 use Rattle.interface.specs.Boot.{hypervisor, cpus, rootPd, bootRecord, hypervisorCap, bootCap}
 use Rattle.interface.specs.Damage.{between1, sameCap, fixed-place, hasPd, null-place, isResource, live-place, shallow}

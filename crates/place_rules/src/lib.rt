@@ -1,6 +1,6 @@
 // The rules that places keep.
 ghost use mathlib.Core.Path.{_≡_};
-ghost use Prim.Native.Nat.{ℕ, _+_, _-_, _*_, _%_, _<_, _≤_};
+ghost use Prim.Native.Nat.{_+_, _<_, _≤_};
 ghost use mathlib.Core.Bool.{true, _&&_, _||_};
 ghost use lib.Dec.{eqb, leb, ltb};
 ghost use lib.ListN.{length};
@@ -9,7 +9,7 @@ ghost use Rattle.interface.specs.Basics.{allBelow};
 ghost use Rattle.interface.specs.Places.{nothing, kindWord, objectAt, objectTableWords, placeTableWords, live, capAt, tables, view, greatestOf};
 ghost use Rattle.interface.specs.Damage.{sameCap, fixed-place, live-place};
 ghost use Rattle.record_rules.specs.RecordKeeping.{recordsIn, Kept};
-ghost use Rattle.place_rules.specs.PlaceKeeping.{placesIn, placeKeeps, parentFits, lineageKeeps, greatestAllowed, quickKeeps, whole, part, extentOf, group, blank, Around, Stretch, Passed};
+ghost use Rattle.place_rules.specs.PlaceKeeping.{placesIn, placeKeeps, parentFits, lineageKeeps, greatestAllowed, quickKeeps, extentOf, group, blank, Around, Stretch, Passed};
 use descriptor::Cap;
 use descriptor::FoundPlace;
 use descriptor::Place;

@@ -24,8 +24,11 @@ greatest-permissions-requires-2 : tie.Need-greatest-permissions-requires-2
 greatest-permissions-requires-2 c κs = search needs
 
 stretch-keeps-requires-2 : tie.Need-stretch-keeps-requires-2
-stretch-keeps-requires-2 c κs =
-    (c .before .before .before .before .before .pre, rw (c .greatest-permissions2 .ensures) io-stretch, answered-yes _ _ (c .before .before .stretch-keeps .ensures) (c .before .if1 .left))
+stretch-keeps-requires-2 c κs = (
+  c .before .before .before .before .before .pre,
+  rw (c .greatest-permissions2 .ensures) io-stretch,
+  answered-yes _ _ (c .before .before .stretch-keeps .ensures) (c .before .if1 .left),
+)
 
 returns-2 : tie.Need-returns-2
 returns-2 c = all-below-within _ (start object) stride _ (omega arith) (c .before .stretch-keeps2 .ensures) (c .if2 .taken)
@@ -34,8 +37,11 @@ greatest-of-requires : tie.Need-greatest-of-requires
 greatest-of-requires c κs = search needs
 
 stretch-keeps-requires-3 : tie.Need-stretch-keeps-requires-3
-stretch-keeps-requires-3 c κs =
-    (c .before .before .before .before .before .before .before .before .pre, rw (c .greatest-of .ensures) idle-stretch, answered-yes _ _ (c .before .before .stretch-keeps2 .ensures) (c .before .if2 .left))
+stretch-keeps-requires-3 c κs = (
+  c .before .before .before .before .before .before .before .before .pre,
+  rw (c .greatest-of .ensures) idle-stretch,
+  answered-yes _ _ (c .before .before .stretch-keeps2 .ensures) (c .before .if2 .left),
+)
 
 returns-3 : tie.Need-returns-3
 returns-3 c = all-below-within _ (start object + cpus) stride _ (omega arith) (c .before .stretch-keeps3 .ensures) (c .if3 .taken)
@@ -44,8 +50,11 @@ greatest-of-requires-2 : tie.Need-greatest-of-requires-2
 greatest-of-requires-2 c κs = search needs
 
 stretch-keeps-requires-4 : tie.Need-stretch-keeps-requires-4
-stretch-keeps-requires-4 c κs =
-    (c .before .before .before .before .before .before .before .before .before .before .before .pre, rw (c .greatest-of2 .ensures) interrupt-stretch, answered-yes _ _ (c .before .before .stretch-keeps3 .ensures) (c .before .if3 .left))
+stretch-keeps-requires-4 c κs = (
+  c .before .before .before .before .before .before .before .before .before .before .before .pre,
+  rw (c .greatest-of2 .ensures) interrupt-stretch,
+  answered-yes _ _ (c .before .before .stretch-keeps3 .ensures) (c .before .if3 .left),
+)
 
 returns-4 : tie.Need-returns-4
 returns-4 c = all-below-within _ (start object + rootPd) stride _ (omega arith) (c .before .stretch-keeps4 .ensures) (c .if4 .taken)

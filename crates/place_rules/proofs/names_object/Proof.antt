@@ -7,7 +7,10 @@ use Rattle.place_rules.proofs.names_object.Statement.{statement}
 use Rattle.place_rules.proofs.names_object.Tie as tie
 
 returns : tie.Need-returns
-returns c = names-none (c .before .before .before .args .cap .resource) (c .before .before .before .args .cap .permissions) (objectAt (now (c .before .before .before .args .objects)) (c .before .before .before .args .cap .resource) kindWord) (c .if1 .taken)
+returns c =
+    let start = c .before .before .before in
+    let cap = start .args .cap in
+    names-none (cap .resource) (cap .permissions) (objectAt (now (start .args .objects)) (cap .resource) kindWord) (c .if1 .taken)
 
 kind-of-requires : tie.Need-kind-of-requires
 kind-of-requires c κs = search needs
@@ -17,7 +20,9 @@ greatest-of-requires c κs = search needs
 
 returns-2 : tie.Need-returns-2
 returns-2 c =
-    names-one (c .before .before .before .before .before .before .args .cap .resource) (c .before .before .before .before .before .before .args .cap .permissions) (objectAt (now (c .before .before .before .before .before .before .args .objects)) (c .before .before .before .before .before .before .args .cap .resource) kindWord) _ (search needs)
+    let start = c .before .before .before .before .before .before in
+    let cap = start .args .cap in
+    names-one (cap .resource) (cap .permissions) (objectAt (now (start .args .objects)) (cap .resource) kindWord) _ (search needs)
     (rw (c .before .before .kind-of .ensures) at (c .before .greatest-of .ensures))
 
 pub names-object-spec : {M : Type 1} → statement M

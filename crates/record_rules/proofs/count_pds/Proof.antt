@@ -32,7 +32,11 @@ pds-at-requires : tie.Need-pds-at-requires Inv-loop μ-loop
 pds-at-requires c κs = search needs
 
 add-before : tie.Need-add-before Inv-loop μ-loop
-add-before c = let turn = c .before .before .before .before in let at = turn .loop .at in let s = recordsIn (turn .before .before .args .objects .now) in omega (arith, pds-small s (at + 1), pds-next s at _ _ (turn .loop .inv .1) (c .pds-at .ensures))
+add-before c =
+    let turn = c .before .before .before .before in
+    let at = turn .loop .at in
+    let s = recordsIn (turn .before .before .args .objects .now) in
+    omega (arith, pds-small s (at + 1), pds-next s at _ _ (turn .loop .inv .1) (c .pds-at .ensures))
 
 add-at : tie.Need-add-at Inv-loop μ-loop
 add-at c = search needs

@@ -36,7 +36,9 @@ loop-less : tie.Need-loop-less Inv-loop μ-loop
 loop-less c = search needs
 
 loop-again : tie.Need-loop-again Inv-loop μ-loop
-loop-again c = (search needs, pd-found (recordsIn (c .before .before .before .before .before .args .objects .now)) _ _ _ _ _ (c .before .before .before .loop .inv .1) (c .before .kind-of .ensures) (c .word-of .ensures))
+loop-again c =
+    let turn = c .before .before .before in
+    (search needs, pd-found (recordsIn (turn .before .before .args .objects .now)) _ _ _ _ _ (turn .loop .inv .1) (c .before .kind-of .ensures) (c .word-of .ensures))
 
 returns : tie.Need-returns Inv-loop μ-loop
 unfolding hasPd

@@ -22,7 +22,11 @@ pds-at-requires : tie.Need-pds-at-requires Inv-loop μ-loop
 pds-at-requires c κs = search needs
 
 add-pds : tie.Need-add-pds Inv-loop μ-loop
-add-pds c = let at = c .before .before .loop .at in let s = recordsIn (c .before .before .before .before .args .objects .now) in omega (arith, pds-small s (at + 1), pds-next s at _ _ (c .before .before .loop .inv .1) (c .pds-at .ensures))
+add-pds c =
+    let turn = c .before .before in
+    let at = turn .loop .at in
+    let s = recordsIn (turn .before .before .args .objects .now) in
+    omega (arith, pds-small s (at + 1), pds-next s at _ _ (turn .loop .inv .1) (c .pds-at .ensures))
 
 add-at : tie.Need-add-at Inv-loop μ-loop
 add-at c = search needs

@@ -1,5 +1,4 @@
 -- A free record and a semaphore are tested at once; of any other the tests are those of the rules, and a domain has a PD where it is one of as many numbers as there are PDs.
-use mathlib.Core.Path.{sym, _∙_}
 use Rattle.record_rules.specs.RecordKeeping.{recordKeeps}
 use Rattle.record_rules.proofs.PdLaws.{home-counted}
 use Rattle.record_rules.proofs.RecordTests.{free-keeps}

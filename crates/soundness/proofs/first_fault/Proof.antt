@@ -2,7 +2,7 @@
 use Prim.Native.Nat.{_+_, _-_, _≤_}
 use mathlib.Core.Path.{_≡_}
 use borrow.Author.Needs.{needs}
-use Rattle.interface.specs.Places.{Tables, shown}
+use Rattle.interface.specs.Places.{tables, view}
 use Rattle.interface.specs.Damage.{firstFault, fault}
 use Rattle.soundness.specs.RuleNumbers.{firstRule, lastRule}
 use Rattle.soundness.proofs.KeepingLaws.{places-long, objects-long}
@@ -11,7 +11,7 @@ use Rattle.soundness.proofs.first_fault.Statement.{statement}
 use Rattle.soundness.proofs.first_fault.Tie as tie
 
 abbrev Inv-loop : tie.InvT-loop
-Inv-loop places objects rule₀ rule = (firstRule ≤ rule) × (rule ≤ lastRule + 1) × (fault (record { places = places; objects = objects }) ≡ firstFault (shown (record { places = places; objects = objects })) (rulesFrom rule))
+Inv-loop places objects rule₀ rule = (firstRule ≤ rule) × (rule ≤ lastRule + 1) × (fault (tables places objects) ≡ firstFault (view places objects) (rulesFrom rule))
 
 abbrev μ-loop : tie.MeasureT-loop
 μ-loop places objects rule₀ rule = lastRule + 1 - rule

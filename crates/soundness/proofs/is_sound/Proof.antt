@@ -24,7 +24,9 @@ returns-2 : tie.Need-returns-2
 returns-2 c = pds-broken _ _ (c .before .before .count-pds .ensures) (c .enum-told .given .1)
 
 records-keep-requires : tie.Need-records-keep-requires
-records-keep-requires c κs = numbered-so _ _ _ (c .before .before .before .before .before .are-sized .ensures) (c .before .before .before .before .if1 .left) _ (c .before .before .before .count-pds .ensures) (c .before .pds .given .1)
+records-keep-requires c κs =
+    let counted = c .before .before .before in
+    numbered-so _ _ _ (counted .before .before .are-sized .ensures) (counted .before .if1 .left) _ (counted .count-pds .ensures) (c .before .pds .given .1)
 
 returns-3 : tie.Need-returns-3
 returns-3 c = search (records-broken, needs)
@@ -37,7 +39,10 @@ returns-4 c = search (hypervisor-broken, needs)
 
 places-keep-requires : tie.Need-places-keep-requires
 places-keep-requires c κs =
-    let numbered = numbered-so _ _ _ (c .before .before .before .before .before .before .before .before .before .are-sized .ensures) (c .before .before .before .before .before .before .before .before .if1 .left) _ (c .before .before .before .before .before .before .before .count-pds .ensures) (c .before .before .before .before .before .pds .given .1) in (
+    let found = c .before .before .before .before .before in
+    let counted = found .before .before in
+    let numbered =
+    numbered-so _ _ _ (counted .before .before .are-sized .ensures) (counted .before .if1 .left) _ (counted .count-pds .ensures) (found .pds .given .1) in (
       search (places-long, needs),
       kept-so numbered _ (c .before .before .before .records-keep .ensures) (c .before .before .if2 .left),
       answered-yes _ _ (c .before .hypervisor-keeps .ensures) (c .if3 .left),
@@ -45,8 +50,12 @@ places-keep-requires c κs =
 
 returns-5 : tie.Need-returns-5
 returns-5 c =
-    let numbered = numbered-so _ _ _ (c .before .before .before .before .before .before .before .before .before .before .are-sized .ensures) (c .before .before .before .before .before .before .before .before .before .if1 .left) _ (c .before .before .before .before .before .before .before .before .count-pds .ensures) (c .before .before .before .before .before .before .pds .given .1) in
-    places-decide _ _ (answered-yes _ _ (c .before .before .before .before .before .before .before .before .before .before .are-sized .ensures) (c .before .before .before .before .before .before .before .before .before .if1 .left))
+    let found = c .before .before .before .before .before .before in
+    let counted = found .before .before in
+    let right = counted .before in
+    let numbered =
+    numbered-so _ _ _ (right .before .are-sized .ensures) (right .if1 .left) _ (counted .count-pds .ensures) (found .pds .given .1) in
+    places-decide _ _ (answered-yes _ _ (right .before .are-sized .ensures) (right .if1 .left))
     (kept-so numbered _ (c .before .before .before .before .records-keep .ensures) (c .before .before .before .if2 .left)) (c .places-keep .ensures)
 
 pub is-sound-spec : {M : Type 1} → statement M
