@@ -1,6 +1,7 @@
 -- A range has a first selector.
 use lib.Pow.{pow-pos}
 use borrow.Author.Needs.{needs}
+use Rattle.descriptor.proofs.DescriptorLaws.{proper-order}
 use Rattle.incident.proofs.say_range.Statement.{statement}
 use Rattle.incident.proofs.say_range.Tie as tie
 
@@ -11,7 +12,7 @@ order-requires : tie.Need-order-requires
 order-requires c κs = search needs
 
 size-requires : tie.Need-size-requires
-size-requires c κs = search needs
+size-requires c κs = search (proper-order (c .before .before .pre), needs)
 
 say-resources-requires : tie.Need-say-resources-requires
 say-resources-requires c κs = search needs
