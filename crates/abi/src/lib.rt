@@ -52,7 +52,10 @@ pub extern "C" fn rudozhev_hypercall(
     source: &[u32],
     target: &mut [u32],
 ) -> u64
-    ensures { λ r. ⌜ record { word = r; tables = tables (now (places .exit)) (now (objects .exit)); block = now (target .exit) } ≡ calling (outcome (tables (now (places .entry)) (now (objects .entry))) (callOf number caller first second third fourth fifth sixth (now (source .entry)) (now (target .entry)))) ⌝ }
+    ensures { λ r. ⌜
+        record { word = r; tables = tables (now (places .exit)) (now (objects .exit)); block = now (target .exit) } ≡
+        calling (outcome (tables (now (places .entry)) (now (objects .entry)))
+        (callOf number caller first second third fourth fifth sixth (now (source .entry)) (now (target .entry)))) ⌝ }
 {
     pack(kernel::hypercall(
         number,

@@ -88,7 +88,9 @@ pub fn create(
     fourth: u32,
 )
     requires { ⌜ SizedPlaces (now places) × SizedObjects (now objects) × (domain < domains) × (number .0 < records) × (kind ≤ SM) ⌝ }
-    ensures { λ r. ⌜ Created (tables (now (places .entry)) (now (objects .entry))) (tables (now (places .exit)) (now (objects .exit))) domain selector (number .0) (fiveWords kind first second third fourth) ⌝ }
+    ensures { λ r. ⌜
+        Created (tables (now (places .entry)) (now (objects .entry))) (tables (now (places .exit)) (now (objects .exit)))
+        domain selector (number .0) (fiveWords kind first second third fourth) ⌝ }
 {
     objects::make(objects, number, kind, first, second, third, fourth);
     places::store(

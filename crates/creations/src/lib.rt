@@ -27,7 +27,9 @@ pub fn create_pd(
     objects: &mut [u32],
 ) -> Reply
     requires { ⌜ Called (now places) (now objects) (caller .0) ⌝ }
-    ensures { λ r. ⌜ ((c : Call) → c .caller ≡ caller .0 → c .first ≡ selector → c .second ≡ pd → c .third ≡ initial → Runs createPd c (tables (now (places .entry)) (now (objects .entry))) (tables (now (places .exit)) (now (objects .exit))) r) ⌝ }
+    ensures { λ r. ⌜
+        ((c : Call) → c .caller ≡ caller .0 → c .first ≡ selector → c .second ≡ pd → c .third ≡ initial →
+        Runs createPd c (tables (now (places .entry)) (now (objects .entry))) (tables (now (places .exit)) (now (objects .exit))) r) ⌝ }
 {
     let domain = capabilities::domain(places, objects, caller);
     let range = Descriptor::from_word(initial).read();
@@ -71,7 +73,9 @@ pub fn create_ec(
     objects: &mut [u32],
 ) -> Reply
     requires { ⌜ Called (now places) (now objects) (caller .0) ⌝ }
-    ensures { λ r. ⌜ ((c : Call) → c .caller ≡ caller .0 → c .first ≡ selector → c .second ≡ pd → c .third ≡ cpu → c .fourth ≡ «event_base» → Runs createEc c (tables (now (places .entry)) (now (objects .entry))) (tables (now (places .exit)) (now (objects .exit))) r) ⌝ }
+    ensures { λ r. ⌜
+        ((c : Call) → c .caller ≡ caller .0 → c .first ≡ selector → c .second ≡ pd → c .third ≡ cpu → c .fourth ≡ «event_base» →
+        Runs createEc c (tables (now (places .entry)) (now (objects .entry))) (tables (now (places .exit)) (now (objects .exit))) r) ⌝ }
 {
     let domain = capabilities::domain(places, objects, caller);
     let new = Creation {
@@ -117,7 +121,9 @@ pub fn create_sc(
     objects: &mut [u32],
 ) -> Reply
     requires { ⌜ Called (now places) (now objects) (caller .0) ⌝ }
-    ensures { λ r. ⌜ ((c : Call) → c .caller ≡ caller .0 → c .first ≡ selector → c .second ≡ pd → c .third ≡ ec → c .fourth ≡ qpd → Runs createSc c (tables (now (places .entry)) (now (objects .entry))) (tables (now (places .exit)) (now (objects .exit))) r) ⌝ }
+    ensures { λ r. ⌜
+        ((c : Call) → c .caller ≡ caller .0 → c .first ≡ selector → c .second ≡ pd → c .third ≡ ec → c .fourth ≡ qpd →
+        Runs createSc c (tables (now (places .entry)) (now (objects .entry))) (tables (now (places .exit)) (now (objects .exit))) r) ⌝ }
 {
     let domain = capabilities::domain(places, objects, caller);
     let bound = capabilities::object_place(domain, ec);
@@ -164,7 +170,9 @@ pub fn create_pt(
     objects: &mut [u32],
 ) -> Reply
     requires { ⌜ Called (now places) (now objects) (caller .0) ⌝ }
-    ensures { λ r. ⌜ ((c : Call) → c .caller ≡ caller .0 → c .first ≡ selector → c .second ≡ pd → c .third ≡ ec → c .fourth ≡ mtd → c .fifth ≡ ip → c .sixth ≡ identifier → Runs createPt c (tables (now (places .entry)) (now (objects .entry))) (tables (now (places .exit)) (now (objects .exit))) r) ⌝ }
+    ensures { λ r. ⌜
+        ((c : Call) → c .caller ≡ caller .0 → c .first ≡ selector → c .second ≡ pd → c .third ≡ ec → c .fourth ≡ mtd → c .fifth ≡ ip → c .sixth ≡ identifier →
+        Runs createPt c (tables (now (places .entry)) (now (objects .entry))) (tables (now (places .exit)) (now (objects .exit))) r) ⌝ }
 {
     let domain = capabilities::domain(places, objects, caller);
     let bound = capabilities::object_place(domain, ec);
@@ -206,7 +214,9 @@ pub fn create_sm(
     objects: &mut [u32],
 ) -> Reply
     requires { ⌜ Called (now places) (now objects) (caller .0) ⌝ }
-    ensures { λ r. ⌜ ((c : Call) → c .caller ≡ caller .0 → c .first ≡ selector → c .second ≡ pd → c .third ≡ count → Runs createSm c (tables (now (places .entry)) (now (objects .entry))) (tables (now (places .exit)) (now (objects .exit))) r) ⌝ }
+    ensures { λ r. ⌜
+        ((c : Call) → c .caller ≡ caller .0 → c .first ≡ selector → c .second ≡ pd → c .third ≡ count →
+        Runs createSm c (tables (now (places .entry)) (now (objects .entry))) (tables (now (places .exit)) (now (objects .exit))) r) ⌝ }
 {
     let domain = capabilities::domain(places, objects, caller);
     let new = Creation {

@@ -117,9 +117,6 @@ linked-out word e l = go (eqb word 0) refl
     go true t = eqb-true word 0 t
     go false f = let leads = linked-at word (omega (arith, eqb-false word 0 f)) l in let never : _≡_ {A = ℕ} 0 1 = cc in omega arith
 
-pub linked-back : (place : ℕ) → place < places → linked (linkOf place) ≡ At (record { 0 = place })
-linked-back place l = let back : place + 1 - 1 ≡ place = omega arith in rw back at (linked-at (linkOf place) (omega arith) (omega arith))
-
 pub numbered-so : (word : ℕ) → word < records → numbered word ≡ Numbered (record { 0 = word })
 unfolding numbered
 numbered-so word h = rw (lt-ltb word records h)

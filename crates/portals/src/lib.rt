@@ -21,7 +21,9 @@ pub fn call(
     target: &mut [u32],
 ) -> Reply
     requires { ⌜ Called (now places) (now objects) (caller .0) ⌝ }
-    ensures { λ r. ⌜ ((c : Call) → c .caller ≡ caller .0 → c .first ≡ selector → c .source ≡ now (source .entry) → c .target ≡ now (target .entry) → Carries c (tables (now (places .entry)) (now (objects .entry))) (tables (now (places .exit)) (now (objects .entry))) (now (target .exit)) r) ⌝ }
+    ensures { λ r. ⌜
+        ((c : Call) → c .caller ≡ caller .0 → c .first ≡ selector → c .source ≡ now (source .entry) → c .target ≡ now (target .entry) →
+        Carries c (tables (now (places .entry)) (now (objects .entry))) (tables (now (places .exit)) (now (objects .entry))) (now (target .exit)) r) ⌝ }
 {
     if source.len() != sizes::BLOCK_WORDS {
         return Reply::BadPar;

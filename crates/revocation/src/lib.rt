@@ -21,7 +21,9 @@ pub fn revoke(
     objects: &[u32],
 ) -> Reply
     requires { ⌜ Called (now places) (now objects) (caller .0) ⌝ }
-    ensures { λ r. ⌜ ((c : Call) → c .caller ≡ caller .0 → c .first ≡ descriptor → c .second ≡ «self_word» → Runs revokeRule c (tables (now (places .entry)) (now (objects .entry))) (tables (now (places .exit)) (now (objects .entry))) r) ⌝ }
+    ensures { λ r. ⌜
+        ((c : Call) → c .caller ≡ caller .0 → c .first ≡ descriptor → c .second ≡ «self_word» →
+        Runs revokeRule c (tables (now (places .entry)) (now (objects .entry))) (tables (now (places .exit)) (now (objects .entry))) r) ⌝ }
 {
     if 1 < self_word {
         return Reply::BadPar;

@@ -21,7 +21,9 @@ pub fn sm_ctrl(
     objects: &mut [u32],
 ) -> Reply
     requires { ⌜ Called (now places) (now objects) (caller .0) ⌝ }
-    ensures { λ r. ⌜ ((c : Call) → c .caller ≡ caller .0 → c .first ≡ selector → c .second ≡ operation → Runs smCtrl c (tables (now (places .entry)) (now (objects .entry))) (tables (now (places .entry)) (now (objects .exit))) r) ⌝ }
+    ensures { λ r. ⌜
+        ((c : Call) → c .caller ≡ caller .0 → c .first ≡ selector → c .second ≡ operation →
+        Runs smCtrl c (tables (now (places .entry)) (now (objects .entry))) (tables (now (places .entry)) (now (objects .exit))) r) ⌝ }
 {
     if DOWN < operation {
         return Reply::BadPar;

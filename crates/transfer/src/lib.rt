@@ -142,7 +142,9 @@ fn items(
     delegating: u32,
 ) -> u32
     requires { ⌜ Sized (now table) × LiveLinks (capAt (now table)) × Ready sender receiver (now source) (now upper) typed ⌝ }
-    ensures { λ r. ⌜ Transferred (now (table .entry)) (now (table .exit)) (now (upper .exit)) (movedBy (placesOnly (now (table .entry))) sender receiver (now (source .entry)) translating delegating (now (upper .entry)) typed) r ⌝ }
+    ensures { λ r. ⌜
+        Transferred (now (table .entry)) (now (table .exit)) (now (upper .exit))
+        (movedBy (placesOnly (now (table .entry))) sender receiver (now (source .entry)) translating delegating (now (upper .entry)) typed) r ⌝ }
 {
     let top = upper.len();
     let mut filled = 0u32;
@@ -177,7 +179,9 @@ pub fn message(
     target: &mut [u32],
 ) -> u32
     requires { ⌜ Sized (now table) × LiveLinks (capAt (now table)) × (sender < domains) × (receiver < domains) × Blocks (now source) (now target) ⌝ }
-    ensures { λ r. ⌜ Transferred (now (table .entry)) (now (table .exit)) (now (target .exit)) (transfer (placesOnly (now (table .entry))) sender receiver (now (source .entry)) (now (target .entry))) r ⌝ }
+    ensures { λ r. ⌜
+        Transferred (now (table .entry)) (now (table .exit)) (now (target .exit))
+        (transfer (placesOnly (now (table .entry))) sender receiver (now (source .entry)) (now (target .entry))) r ⌝ }
 {
     let word0 = source[0];
     let translating = target[TRANSLATE_WINDOW];

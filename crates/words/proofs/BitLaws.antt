@@ -95,11 +95,6 @@ pub revoked-respects : (a b m : ℕ) → within a b ≡ true → within (revoked
 revoked-respects a b m h =
     within-revoked (revoked a m) b m (within-across (revoked a m) a b (revoked-within a m) h) (revoked-apart a m)
 
--- revocation leaves nothing exactly of what the mask includes
-pub revoked-none : (a m : ℕ) → (revoked a m ≡ 0) ↔ (within a m ≡ true)
-revoked-none a m =
-    (λ (h : revoked a m ≡ 0). eq-eqb (bitAnd a m) a (omega (arith, and-le-l a m)), λ (h : within a m ≡ true). omega (arith, eqb-true (bitAnd a m) a h))
-
 -- the mask whose `k` low bits are set, and no other, includes each number of `k` bits
 
 pub delegated-ones : (k a : ℕ) → a < 2 ^ k → delegated a (2 ^ k - 1) ≡ a

@@ -164,13 +164,6 @@ left-none =
     (λ bytes none. subst (λ (read : Contents). NoRecord (read .left)) (sym (none-read bytes none (length bytes))) none)
     (λ kind body later one none. subst (λ (read : Contents). NoRecord (read .left)) (sym (record-read kind body later one)) none)
 
--- there are no more records than bytes
-pub calls-at-most : (bytes : List ℕ) → length (contents bytes .calls) ≤ length bytes
-calls-at-most =
-    record-by-record (λ bytes. length (contents bytes .calls) ≤ length bytes)
-    (λ bytes none. rw (none-read bytes none (length bytes)) (omega arith))
-    (λ kind body later one fewer. rw (record-read kind body later one) (omega (arith, length-append body later)))
-
 -- the tables, the lines and the texts of two lists in turn
 pub tables-append : (tables : Tables) (first second : List Call) →
     tablesAfterAll tables (map hypercalls (first ++ second)) ≡ tablesAfterAll (tablesAfterAll tables (map hypercalls first)) (map hypercalls second)

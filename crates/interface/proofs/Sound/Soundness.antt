@@ -58,10 +58,6 @@ pub all-tail : {A : Type 0} (test : A → Bool) (a : A) (list : List A) → all 
 unfolding all
 all-tail test a list h = and-right (test a) (all test list) h
 
-pub all-cons : {A : Type 0} (test : A → Bool) (a : A) (list : List A) → test a ≡ true → all test list ≡ true → all test (a ∷ list) ≡ true
-unfolding all
-all-cons test a list h t = both (test a) (all test list) h t
-
 -- the statement of each member of a list of rules
 abbrev pub Kept : State → List Rule → Type 0
 Kept s [] = Unit {0}

@@ -1,6 +1,6 @@
 -- The tables are boot's, from which every sequence of events starts.
 use borrow.Author.Needs.{needs}
-use Rattle.kernel.proofs.AnswerLaws.{from-boot}
+use Rattle.kernel.proofs.FaceLaws.{from-boot}
 use Rattle.kernel.proofs.boot.Statement.{statement}
 use Rattle.kernel.proofs.boot.Tie as tie
 

@@ -5,7 +5,7 @@ use denote.Ref.{now}
 use borrow.Author.Tests.{not-true, not-false}
 use Rattle.interface.specs.Places.{tables}
 use Rattle.interface.specs.Damage.{sound}
-use Rattle.kernel.proofs.AnswerLaws.{showing-heirs, census-refused, census-counted, census-lengths, census-links}
+use Rattle.kernel.proofs.FaceLaws.{showing-heirs, census-refused, census-counted, census-lengths, census-links}
 use borrow.Author.Needs.{needs}
 use Rattle.kernel.proofs.census.Statement.{statement}
 use Rattle.kernel.proofs.census.Tie as tie

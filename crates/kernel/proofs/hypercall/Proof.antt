@@ -4,7 +4,7 @@ use denote.Ref.{now}
 use borrow.Author.Needs.{needs}
 use Rattle.interface.specs.Verdicts.{Call}
 use Rattle.interface.specs.Outcomes.{callOf}
-use Rattle.kernel.proofs.AnswerLaws.{going-on, damaged-outcome}
+use Rattle.kernel.proofs.FaceLaws.{going-on, damaged-outcome}
 use Rattle.kernel.proofs.hypercall.Statement.{statement}
 use Rattle.kernel.proofs.hypercall.Tie as tie
 

@@ -1,6 +1,6 @@
 -- The base is a selector of the space already, so that it names the selector of its number.
 use borrow.Author.Needs.{needs}
-use Rattle.requests.proofs.RangeLaws.{never-outside, named-proper, named-describes}
+use Rattle.requests.proofs.FullRangeLaws.{never-outside, named-proper, named-describes}
 use Rattle.requests.proofs.range.Statement.{statement}
 use Rattle.requests.proofs.range.Tie as tie
 
