@@ -10,7 +10,7 @@ use words::sizes;
 // The words before the payload, and those of the payload.
 pub const HEAD_WORDS: usize = 4;
 
-const PAYLOAD_WORDS: u32 = 60;
+const PAYLOAD_WORDS: u32 = (sizes::BLOCK_WORDS - HEAD_WORDS) as u32;
 
 // How many untyped words word 0 says.
 pub fn untyped_count(word0: u32) -> u32

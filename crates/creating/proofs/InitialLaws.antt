@@ -24,8 +24,7 @@ use Rattle.interface.proofs.Basics.BoolLaws.{either-way}
 use Rattle.interface.proofs.Tables.TurnLaws.{run-append}
 use Rattle.places.specs.Table.{Sized, Given}
 use Rattle.places.proofs.CapTableLaws.{cap-at-table, cap-at-end, given-end}
-use Rattle.objects.specs.Records.{recordsIn, pdCount}
-use Rattle.creations.specs.Creating.{Hands, Initial}
+use Rattle.objects.specs.Records.{recordsIn}
 use Rattle.creating.specs.Creating.{Hands, Initial}
 
 -- one more place is handed on by a delegation

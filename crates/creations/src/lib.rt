@@ -102,7 +102,7 @@ pub fn create_ec(
                 objects::EC,
                 home,
                 cpu,
-                event_base % sizes::OBJECTS,
+                event_base % sizes::OBJECT_SELECTORS,
                 0,
             );
             Reply::Success(0)

@@ -44,7 +44,7 @@ impl Selector {
     pub fn wrapped(word: u32) -> Selector
         ensures { λ r. ⌜ r .0 ≡ word % selectors object ⌝ }
     {
-        Selector(word % sizes::OBJECTS)
+        Selector(word % sizes::OBJECT_SELECTORS)
     }
 
     // The selector that a word names in a space: object selectors wrap, and a page's or a port's is below the number of selectors of its space.
@@ -52,9 +52,9 @@ impl Selector {
         ensures { λ r. ⌜ r ≡ selected space word ⌝ }
     {
         if space == sizes::OBJECT {
-            return FoundSelector::Named(Selector(word % sizes::OBJECTS));
+            return FoundSelector::Named(Selector(word % sizes::OBJECT_SELECTORS));
         }
-        if sizes::PAGES <= word {
+        if sizes::PAGE_SELECTORS <= word {
             return FoundSelector::Outside;
         }
         FoundSelector::Named(Selector(word))
@@ -418,7 +418,7 @@ impl Descriptor {
         if space == sizes::OBJECT {
             return Reading::Good(Range {
                 space,
-                base: base % sizes::OBJECTS,
+                base: base % sizes::OBJECT_SELECTORS,
                 order,
                 mask,
             });

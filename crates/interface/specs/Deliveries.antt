@@ -12,12 +12,13 @@ use Rattle.words.specs.Ranges.{raised}
 use Rattle.descriptor.specs.declared.Range.{Range}
 use Rattle.descriptor.specs.declared.Reading.the-variants.{Good}
 use Rattle.descriptor.specs.declared.Match.the-variants.{Both}
+use Rattle.descriptor.specs.declared.Reply.the-variants.{Success}
 use Rattle.interface.specs.Basics.{if_then_else_, word}
 use Rattle.interface.specs.Places.{State, live, nothing, domainWord, kindOf}
 use Rattle.interface.specs.Damage.{soundState}
 use Rattle.interface.specs.RangeDescriptors.{describe, reading}
-use Rattle.interface.specs.Effects.{Effect, run, filled}
-use Rattle.interface.specs.Verdicts.{Call, CALL, CREATE-PD, callerDomain, grant, deliver}
+use Rattle.interface.specs.Effects.{run, filled}
+use Rattle.interface.specs.Verdicts.{Call, CALL, CREATE-PD, callerDomain, replyOf, blockOf}
 use Rattle.interface.specs.Creations.{freeRecord, nextDomain}
 use Rattle.interface.specs.Message.{receivedWord, Item, translateItem, itemOf, carried}
 use Rattle.interface.specs.Translations.{Translated}
@@ -132,8 +133,7 @@ pub record ItemsDelivered (s : State) (c : Call) (answer : ℕ) : Type 0 where
 -- Every CALL that is granted delivers its items so
 abbrev pub DeliversItems : Type 0
 DeliversItems =
-    (s : State) (c : Call) (answer : ℕ) (effects : List Effect) (block : List ℕ) → c .number ≡ CALL → rules s c ≡ deliver answer effects block →
-    ItemsDelivered s c answer
+    (s : State) (c : Call) (answer : ℕ) → c .number ≡ CALL → replyOf (rules s c) ≡ Success answer → ItemsDelivered s c answer
 
 -- The received block.
 
@@ -178,8 +178,7 @@ pub record WordsDelivered (s : State) (c : Call) (block : List ℕ) : Type 0 whe
 -- Every CALL that is granted gives the receiver its words so
 abbrev pub DeliversWords : Type 0
 DeliversWords =
-    (s : State) (c : Call) (answer : ℕ) (effects : List Effect) (block : List ℕ) → c .number ≡ CALL → rules s c ≡ deliver answer effects block →
-    WordsDelivered s c block
+    (s : State) (c : Call) (answer : ℕ) → c .number ≡ CALL → replyOf (rules s c) ≡ Success answer → WordsDelivered s c (blockOf (c .target) (rules s c))
 
 -- CREATE_PD's initial range.
 
@@ -207,5 +206,4 @@ pub record RangeDelivered (s : State) (c : Call) : Type 0 where
 -- Every CREATE_PD that is granted delivers its initial range so
 abbrev pub DeliversRange : Type 0
 DeliversRange =
-    (s : State) (c : Call) (answer : ℕ) (effects : List Effect) → c .number ≡ CREATE-PD → rules s c ≡ grant answer effects →
-    RangeDelivered s c
+    (s : State) (c : Call) (answer : ℕ) → c .number ≡ CREATE-PD → replyOf (rules s c) ≡ Success answer → RangeDelivered s c

@@ -141,7 +141,7 @@ fn greatest_allowed(objects: &[u32], space: u32, resource: u32) -> u32
         }
         return objects::greatest_of(record_rules::kind_of(objects, resource));
     }
-    if sizes::PAGES <= resource {
+    if sizes::PAGE_SELECTORS <= resource {
         return 0;
     }
     objects::greatest_permissions(space, objects::FREE)

@@ -146,7 +146,7 @@ pub fn ec_keeps(objects: &[u32], number: u32, home: bool) -> bool
     }
     home
         & (word_of(objects, number, objects::CPU) < objects::CPUS)
-        & (word_of(objects, number, objects::EVENT_BASE) < sizes::OBJECTS)
+        & (word_of(objects, number, objects::EVENT_BASE) < sizes::OBJECT_SELECTORS)
 }
 
 // Whether a number is an EC's.
@@ -212,7 +212,7 @@ fn pds_at(objects: &[u32], number: u32) -> u32
 }
 
 // How many PDs there are, if each keeps its rule.
-pub fn count_pds(objects: &[u32]) -> CountedPds
+pub fn pds_in_turn(objects: &[u32]) -> CountedPds
     requires { ⌜ length (now objects) ≡ objectTableWords ⌝ }
     ensures { λ r. ⌜ r ≡ countedPds (recordsIn (now (objects .entry))) ⌝ }
 {

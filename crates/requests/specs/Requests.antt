@@ -1,5 +1,5 @@
 -- Requests: the hypercalls by name, as those who ask for them write them down.
-use Prim.Native.Nat.{ℕ, _+_, _-_, _^_}
+use Prim.Native.Nat.{ℕ, _+_, _^_}
 use mathlib.Core.Path.{_≡_}
 use mathlib.Core.List.{List, []}
 use Rattle.words.specs.Sizes.{blockWords}
@@ -9,7 +9,8 @@ use Rattle.interface.specs.Basics.{listed, put}
 use Rattle.interface.specs.Places.{tables}
 use Rattle.interface.specs.Message.{delegateBit, delegateWindow, descriptorAt, hotspotField, hypervisorBit, secondAt, typedCount, untypedCount}
 use Rattle.interface.specs.Verdicts.{Call, CALL}
-use Rattle.interface.specs.Outcomes.{Answered, answered, callOf}
+use Rattle.interface.specs.Outcomes.{answered, callOf}
+use Rattle.interface.specs.Demand.{wholeMask}
 
 -- a request that was made: its reply and both tables after it are those that the rules give for a call
 abbrev pub Asked : List ℕ → List ℕ → List ℕ → List ℕ → Reply → Call → Type 0
@@ -17,11 +18,8 @@ Asked places objects places-after objects-after reply call =
     record { reply = reply; tables = tables places-after objects-after } ≡ answered (tables places objects) call
 
 -- a range whose mask has all five bits, so that it takes no permission away
-abbrev pub fullMask : ℕ
-fullMask = 2 ^ 5 - 1
-
 abbrev pub fullRange : ℕ → ℕ → ℕ → Range
-fullRange space base order = record { space = space; base = base; order = order; mask = fullMask }
+fullRange space base order = record { space = space; base = base; order = order; mask = wholeMask }
 
 -- a call that sends no message: its number, its caller and its first three words
 abbrev pub withoutMessage : ℕ → ℕ → ℕ → ℕ → ℕ → Call

@@ -15,7 +15,7 @@ pub fn is_sound(places: &[u32], objects: &[u32]) -> bool
     if !boot::are_sized(places, objects) {
         return false;
     }
-    let CountedPds::InTurn(pds) = record_rules::count_pds(objects) else {
+    let CountedPds::InTurn(pds) = record_rules::pds_in_turn(objects) else {
         return false;
     };
     if !record_rules::records_keep(objects, pds) {

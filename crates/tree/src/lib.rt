@@ -22,7 +22,7 @@ use words::sizes;
 const WORD_BITS: u32 = 32;
 
 // The marks of a space, in each domain as many as the object space has selectors, and their words.
-const MARKS: u32 = sizes::DOMAINS * sizes::OBJECTS;
+const MARKS: u32 = sizes::DOMAINS * sizes::OBJECT_SELECTORS;
 
 const MARK_WORDS: usize = (MARKS / WORD_BITS) as usize;
 
@@ -55,7 +55,7 @@ fn mark_of(place: Place) -> u32
     requires { ⌜ place .0 < places ⌝ }
     ensures { λ r. ⌜ r ≡ markOf (place .0) ⌝ }
 {
-    place.domain() * sizes::OBJECTS + place.selector().number()
+    place.domain() * sizes::OBJECT_SELECTORS + place.selector().number()
 }
 
 // Whether a place of the space whose marks these are is marked.
@@ -207,7 +207,7 @@ fn strip_next(
     let selector = Selector::wrapped(number);
     let known = selector.number() < sizes::selectors(space);
     if permissions::has(number % WORD_BITS, word) & known {
-        let place = Place::of(number / sizes::OBJECTS, space, selector);
+        let place = Place::of(number / sizes::OBJECT_SELECTORS, space, selector);
         strip(table, place, mask);
         return number + 1;
     }

@@ -15,18 +15,18 @@ pub const OBJECT: u32 = 2;
 // The orders of whole spaces and the numbers of their selectors: of the object space, and of the memory and the I/O space.
 pub const OBJECT_ORDER: u32 = 6;
 
-pub const OBJECTS: u32 = 1 << OBJECT_ORDER;
+pub const OBJECT_SELECTORS: u32 = 1 << OBJECT_ORDER;
 
 pub const PAGE_ORDER: u32 = 6;
 
-pub const PAGES: u32 = 1 << PAGE_ORDER;
+pub const PAGE_SELECTORS: u32 = 1 << PAGE_ORDER;
 
 // Where the spaces begin among the places of their domain, and how many places that has.
-pub const IO_START: u32 = PAGES;
+pub const IO_START: u32 = PAGE_SELECTORS;
 
-pub const OBJECT_START: u32 = IO_START + PAGES;
+pub const OBJECT_START: u32 = IO_START + PAGE_SELECTORS;
 
-pub const STRIDE: u32 = OBJECT_START + OBJECTS;
+pub const STRIDE: u32 = OBJECT_START + OBJECT_SELECTORS;
 
 pub const PLACES: u32 = DOMAINS * STRIDE;
 
@@ -59,9 +59,9 @@ pub fn selectors(space: u32) -> u32
     ensures { λ r. ⌜ r ≡ selectors space ⌝ }
 {
     if space == OBJECT {
-        return OBJECTS;
+        return OBJECT_SELECTORS;
     }
-    PAGES
+    PAGE_SELECTORS
 }
 
 // Where a space begins among the places of its domain.

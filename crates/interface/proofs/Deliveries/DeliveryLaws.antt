@@ -1,7 +1,8 @@
 -- What CALL's items deliver: how far a message has come before each offset, one delegation at a time.
+use Rattle.descriptor.specs.Replies.{statusOf}
 use Prim.Native.Nat.{ℕ, suc, _+_, _*_, _≤_, _<_}
 use mathlib.Core.Path.{_≡_, refl, sym, ap, _∙_}
-use mathlib.Core.Bool.{true, false, not, _&&_}
+use mathlib.Core.Bool.{true, false, not, _&&_, Bool}
 use mathlib.Core.List.{List, [], _∷_}
 use native.Mathlib.Decide.{le-ind}
 use native.Mathlib.Nat.{le-refl, add-zero, add-assoc}
@@ -18,15 +19,15 @@ use Rattle.descriptor.specs.declared.Match.{Match}
 use Rattle.descriptor.specs.declared.Match.the-variants.{Both, Neither}
 use Rattle.descriptor.specs.declared.Received.the-variants.{NullItem}
 use Rattle.descriptor.specs.declared.Reason.{Reason}
-use Rattle.descriptor.specs.declared.Reply.the-variants.{ComTim, BadCap, BadPar, BadCpu}
+use Rattle.descriptor.specs.declared.Reply.the-variants.{ComTim, BadCap, BadPar, BadCpu, Success}
 use Rattle.descriptor.proofs.DescriptorLaws.{matched-both, matched-good}
 use Rattle.interface.specs.Basics.{word, listed}
-use Rattle.interface.specs.Places.{Cap, State, live, PT, ecWord, cpuWord, callBit, objectPlace, permitted, objectIn}
+use Rattle.interface.specs.Places.{Cap, State, live, PT, ecWord, cpuWord, callBit, objectPlace, permitted, objectIn, domainWord}
 use Rattle.interface.specs.Damage.{soundState}
 use Rattle.interface.specs.RangeDescriptors.{reading, matched}
 use Rattle.interface.specs.Effects.{Effect, give, fills, handed, act, run, fillsOne, filled}
-use Rattle.interface.specs.Verdicts.{Call, CALL, deliver, require_else_then_, callerDomain}
-use Rattle.interface.specs.Message.{translateWindow, delegateWindow, delegateBit, payloadFits, descriptorAt, secondAt, Item, Moved, delegateItem, translateItem, sourceDomain, itemOf, carried}
+use Rattle.interface.specs.Verdicts.{Call, CALL, deliver, require_else_then_, callerDomain, Verdict, replyOf}
+use Rattle.interface.specs.Message.{translateWindow, delegateWindow, delegateBit, payloadFits, descriptorAt, secondAt, Item, Moved, delegateItem, translateItem, sourceDomain, itemOf, carried, transfer}
 use Rattle.interface.specs.PortalCalls.{portalCall}
 use Rattle.interface.specs.Rules.{hypercall, rules, after}
 use Rattle.interface.specs.Consequences.{calleeDomain}
@@ -36,7 +37,7 @@ use Rattle.interface.proofs.Sound.Soundness.{sound-facts, facts-sound}
 use Rattle.interface.proofs.History.Sequences.{run-sound}
 use Rattle.interface.proofs.Sound.SoundFacts.{home, ec-home}
 use Rattle.interface.proofs.Sound.MessageFits.{message-fits}
-use Rattle.interface.proofs.Tables.VerdictLaws.{required, rule-grants, rule-checked, after-verdict}
+use Rattle.interface.proofs.Tables.VerdictLaws.{required, rule-grants, rule-checked, after-verdict, rule-succeeds}
 use Rattle.interface.proofs.Tables.TurnLaws.{run-append, filled-append, give-others}
 use Rattle.interface.proofs.Tables.TableLaws.{length-listed, take-listed}
 use Rattle.interface.proofs.History.NoteLaws.{fills-leaves}
@@ -360,9 +361,42 @@ module _ (s : State) (c : Call) (answer : ℕ) (effects : List Effect) (block : 
       let fits = message-fits s c facts (checked .1) (call-granted s c answer effects block n h .portal-permitted) item in
       rw (before-first s c item) (facts-sound (stateBefore s c item) (run-sound (movedBefore s c item .effects) s facts fits))
 
+-- a CALL that succeeds passed its five checks, and delivers
+five-passed : (whole held other same fits : Bool) (last : Verdict) (answer : ℕ) →
+    let all =
+        require whole else BadPar then require held else BadCap then require other else ComTim then require same else BadCpu then
+        require fits else BadPar then last in
+    replyOf all ≡ Success answer → all ≡ last
+five-passed true true true true true last answer h = refl
+five-passed true true true true false last answer h = absurd (omega (arith, ap statusOf h))
+five-passed true true true false fits last answer h = absurd (omega (arith, ap statusOf h))
+five-passed true true false same fits last answer h = absurd (omega (arith, ap statusOf h))
+five-passed true false other same fits last answer h = absurd (omega (arith, ap statusOf h))
+five-passed false held other same fits last answer h = absurd (omega (arith, ap statusOf h))
+
+pub call-delivers : (s : State) (c : Call) (answer : ℕ) → c .number ≡ CALL → replyOf (rules s c) ≡ Success answer →
+    (effects : List Effect) × (block : List ℕ) × (rules s c ≡ deliver answer effects block)
+unfolding hypercall portalCall
+call-delivers s c answer n h =
+    let by-rule = rule-succeeds s c answer portalCall (rw n) h in
+    let portal = objectPlace (callerDomain s c) (c .first) in
+    let callee = s .objects (objectIn s portal) ecWord in
+    let moved = transfer s (callerDomain s c) (s .objects callee domainWord) (c .source) (c .target) in
+    let delivers : rules s c ≡ deliver (moved .filled) (moved .effects) (moved .block) =
+        by-rule ∙
+        five-passed (eqb (length (c .source)) blockWords && eqb (length (c .target)) blockWords) (permitted s portal PT callBit) (not (eqb callee (c .caller)))
+        (eqb (s .objects callee cpuWord) (s .objects (c .caller) cpuWord)) (payloadFits (word (c .source) 0))
+        (deliver (moved .filled) (moved .effects) (moved .block)) answer (ap replyOf (sym by-rule) ∙ h) in
+    let same : moved .filled ≡ answer = success-same (ap replyOf (sym delivers) ∙ h) in
+    (moved .effects, moved .block, delivers ∙ ap (λ (count : ℕ). deliver count (moved .effects) (moved .block)) same)
+  where
+    success-same : {a b : ℕ} → Success a ≡ Success b → a ≡ b
+    success-same e = cc
+
 pub delivers-items : DeliversItems
 unfolding carried run
-delivers-items s c answer effects block n h =
+delivers-items s c answer n succeeds =
+    let (effects, block, h) = call-delivers s c answer n succeeds in
     let granted = call-granted s c answer effects block n h in
     record {
       from-the-call = before-first s c 0;

@@ -1,12 +1,14 @@
 -- What CREATE_PD's initial range delivers: its delegations go from one domain to another, so each is what it would be alone.
+use Rattle.descriptor.specs.Replies.{statusOf}
+use Rattle.descriptor.specs.declared.Reply.the-variants.{Success, BadCap, BadCpu, BadPar, NoRoom}
 use Prim.Native.Nat.{ℕ, zero, suc, _+_, _^_, _<_}
 use mathlib.Core.Path.{_≡_, refl, sym, ap, _∙_, subst}
-use mathlib.Core.Bool.{Bool, true, false}
-use mathlib.Core.List.{List, [], _∷_}
+use mathlib.Core.Bool.{Bool, true, false, not, _&&_}
+use mathlib.Core.List.{List, [], _∷_, _++_}
 use native.Mathlib.Omega.{arith}
-use lib.Dec.{eqb}
+use lib.Dec.{eqb, ltb}
 use borrow.Author.Tests.{eqb-true, eq-eqb, ltb-true, ne-eqb}
-use Rattle.words.specs.Sizes.{domains, object, selectors, domainOf, places}
+use Rattle.words.specs.Sizes.{domains, object, selectors, domainOf, places, records}
 use Rattle.words.proofs.PlaceLaws.{domain-back}
 use Rattle.descriptor.specs.Descriptors.{Proper}
 use Rattle.descriptor.specs.declared.Range.{Range}
@@ -14,14 +16,14 @@ use Rattle.descriptor.specs.declared.Reading.{Reading}
 use Rattle.descriptor.specs.declared.Reading.the-variants.{Null, Malformed, Good}
 use Rattle.descriptor.proofs.DescriptorLaws.{good-proper, proper-end}
 use Rattle.interface.specs.Basics.{word, listed, anyBelow}
-use Rattle.interface.specs.Places.{Cap, State, live, nothing, PD, kindWord, domainWord, kindOf, parentless, greatestOf}
+use Rattle.interface.specs.Places.{Cap, State, live, nothing, PD, kindWord, domainWord, kindOf, parentless, greatestOf, permitted, createBit}
 use Rattle.interface.specs.Boot.{hypervisor}
 use Rattle.interface.specs.Damage.{isEc}
 use Rattle.interface.specs.RangeDescriptors.{reading}
-use Rattle.interface.specs.Effects.{Effect, give, hold, handed, act, run}
-use Rattle.interface.specs.Verdicts.{Call, Verdict, grant, effectsOf, callerDomain}
-use Rattle.interface.specs.Creations.{newPlace, freeRecord, nextDomain, Creation, initialGood, initialGives, createPd}
-use Rattle.interface.specs.Rules.{hypercall, after}
+use Rattle.interface.specs.Effects.{Effect, give, hold, handed, act, run, make}
+use Rattle.interface.specs.Verdicts.{Call, Verdict, grant, effectsOf, callerDomain, CREATE-PD, replyOf, require_else_then_}
+use Rattle.interface.specs.Creations.{newPlace, freeRecord, nextDomain, Creation, initialGood, initialGives, createPd, creation, pdPlace}
+use Rattle.interface.specs.Rules.{hypercall, after, rules}
 use Rattle.interface.specs.Deliveries.{Due, initialSource, initialDestination, RangeDelivered, DeliversRange}
 use Rattle.interface.proofs.Basics.BoolLaws.{cases, not-both}
 use Rattle.interface.proofs.Basics.BelowLaws.{below-suc, any-below, any-below-at}
@@ -30,7 +32,7 @@ use Rattle.interface.proofs.Sound.Soundness.{Sound, sound-facts}
 use Rattle.interface.proofs.Sound.PlaceFacts.{null-cap, live-facts}
 use Rattle.interface.proofs.Sound.SoundFacts.{object-place-domain, home, ec-home}
 use Rattle.interface.proofs.Tables.TurnLaws.{run-append, give-others, gives, gives-others}
-use Rattle.interface.proofs.Tables.VerdictLaws.{rule-grants, rule-checked, after-verdict}
+use Rattle.interface.proofs.Tables.VerdictLaws.{rule-grants, rule-checked, after-verdict, rule-succeeds}
 use Rattle.interface.proofs.Sound.CreationsFit.{stored, stored-words, Granted, stepsOf, granted-so, Initial, pd-initial}
 use Rattle.interface.proofs.Deliveries.DelegationLaws.{give-hands}
 use Rattle.interface.proofs.Deliveries.DeliveryLaws.{due-fills, handed-delegated, not-due-same}
@@ -241,10 +243,40 @@ module _ (s : State) (c : Call) (k : Sound s) (e : isEc s (c .caller) ≡ true) 
       after s c ≡ run (stepsOf s c new) s → RangeDelivered s c
   granted-delivers {new} granted w d good l ends = range-delivered new w d good (pd-initial s c k e new w d l good (granted .room)) ends
 
+-- a CREATE_PD that succeeds passed its six checks, and grants
+six-passed : (null held bound cpu good room : Bool) (last : Verdict) (answer : ℕ) →
+    let all =
+        require null else BadCap then require held else BadCap then require bound else BadCap then require cpu else BadCpu then
+        require good else BadPar then require room else NoRoom then last in
+    replyOf all ≡ Success answer → all ≡ last
+six-passed true true true true true true last answer h = refl
+six-passed true true true true true false last answer h = absurd (omega (arith, ap statusOf h))
+six-passed true true true true false room last answer h = absurd (omega (arith, ap statusOf h))
+six-passed true true true false good room last answer h = absurd (omega (arith, ap statusOf h))
+six-passed true true false cpu good room last answer h = absurd (omega (arith, ap statusOf h))
+six-passed true false bound cpu good room last answer h = absurd (omega (arith, ap statusOf h))
+six-passed false held bound cpu good room last answer h = absurd (omega (arith, ap statusOf h))
+
+pd-grants : (s : State) (c : Call) (answer : ℕ) → c .number ≡ CREATE-PD → replyOf (rules s c) ≡ Success answer →
+    (effects : List Effect) × (rules s c ≡ grant 0 effects)
+unfolding hypercall createPd creation
+pd-grants s c answer n h =
+    let by-rule = rule-succeeds s c answer createPd (rw n) h in
+    let steps =
+        make (freeRecord s) (PD ∷ nextDomain s ∷ []) ∷ initialGives (callerDomain s c) (nextDomain s) (reading (c .third)) ++
+        (hold (newPlace s c) (freeRecord s) ∷ []) in
+    (
+      steps,
+      by-rule ∙
+      six-passed (not (live (s .caps (newPlace s c)))) (permitted s (pdPlace s c) PD (createBit PD)) true true (initialGood (reading (c .third)))
+      (ltb (freeRecord s) records && ltb (nextDomain s) domains) (grant 0 steps) answer (ap replyOf (sym by-rule) ∙ h),
+    )
+
 pub delivers-range : DeliversRange
 unfolding hypercall createPd
-delivers-range s c answer effects n h =
-    let given = grant answer effects in
+delivers-range s c answer n succeeds =
+    let (effects, h) = pd-grants s c answer n succeeds in
+    let given = grant 0 effects in
     let checked = rule-checked given refl s c h createPd (rw n) in
     granted-so (λ (verdict : Verdict). verdict ≡ given → RangeDelivered s c) s c _
     (λ reply never. let z : _≡_ {A = ℕ} 0 1 = cc in absurd (omega arith))

@@ -25,7 +25,7 @@ use Rattle.interface.specs.Deliveries.{Due, untyped, itemCount, Delegate
 use Rattle.interface.proofs.Tables.TurnLaws.{filled-append}
 use Rattle.interface.proofs.Tables.TableLaws.{take-listed}
 use Rattle.interface.proofs.Deliveries.TranslationLaws.{translates-exactly}
-use Rattle.interface.proofs.Deliveries.DeliveryLaws.{not-due-same, due-counts, movedBefore, stateBefore, outcome, stepAt, before-first, outcome-delegates, steps-listed, outcome-unmatched, outcome-matched, outcome-untranslated, CallGranted, call-granted, caller-domain-small, before-sound}
+use Rattle.interface.proofs.Deliveries.DeliveryLaws.{not-due-same, due-counts, movedBefore, stateBefore, outcome, stepAt, before-first, outcome-delegates, steps-listed, outcome-unmatched, outcome-matched, outcome-untranslated, CallGranted, call-granted, caller-domain-small, before-sound, call-delivers}
 
 -- A copy into a list: its words before the copy, in it, and after it.
 module _ (into from : List ℕ) (at size : ℕ) (fits : at + size ≤ length into) (enough : size ≤ length from) where
@@ -284,6 +284,7 @@ module _ (s : State) (c : Call) (answer : ℕ) (block : List ℕ) (granted : Cal
       }
 
 pub delivers-words : DeliversWords
-delivers-words s c answer effects block n h =
+delivers-words s c answer n succeeds =
+    let (effects, block, h) = call-delivers s c answer n succeeds in
     let granted = call-granted s c answer effects block n h in
-    rw (granted .gives-back) (words-delivered s c answer block granted (caller-domain-small s c answer effects block n h) (before-sound s c answer effects block n h))
+    rw (h, granted .gives-back) (words-delivered s c answer block granted (caller-domain-small s c answer effects block n h) (before-sound s c answer effects block n h))

@@ -3,12 +3,14 @@ use mathlib.Core.Path.{_≡_, refl, sym, ap, _∙_}
 use mathlib.Core.Bool.{Bool, true, false, true≢false}
 use mathlib.Core.List.{List}
 use Prim.Native.Nat.{ℕ}
+use native.Mathlib.Omega.{arith}
+use Rattle.descriptor.specs.Replies.{statusOf}
 use Rattle.descriptor.specs.declared.Reply.{Reply}
-use Rattle.descriptor.specs.declared.Reply.the-variants.{Damaged, BadCaller}
+use Rattle.descriptor.specs.declared.Reply.the-variants.{Success, Damaged, BadCaller}
 use Rattle.interface.specs.Places.{State, Tables}
 use Rattle.interface.specs.Damage.{soundState, isEc}
 use Rattle.interface.specs.Effects.{run}
-use Rattle.interface.specs.Verdicts.{Call, Verdict, refuse, grant, deliver, require_else_then_, effectsOf}
+use Rattle.interface.specs.Verdicts.{Call, Verdict, refuse, grant, deliver, require_else_then_, replyOf, effectsOf}
 use Rattle.interface.specs.Rules.{rule, hypercall, called, rules, after}
 use Rattle.interface.specs.Outcomes.{Outcome, outcome, answered}
 
@@ -39,6 +41,21 @@ module _ (given : Verdict) (is-granted : refuses given ≡ false) where
     rule-checked verdict e =
         let on-sound = required (soundState s) Damaged (called s c (hypercall (c .number))) granted in
         (on-sound .0, required (isEc s (c .caller)) BadCaller (verdict s c) (ap (called s c) (sym e) ∙ on-sound .1) .0)
+
+-- a rule that succeeds goes on behind its check
+pub succeeds : (test : Bool) (reply : Reply) (next : Verdict) (answer : ℕ) → (statusOf reply ≡ 0 → ⊥) →
+    replyOf (require test else reply then next) ≡ Success answer → (require test else reply then next) ≡ next
+succeeds true reply next answer n h = refl
+succeeds false reply next answer n h = absurd (n (ap statusOf h))
+
+-- a call that succeeds has the verdict of its number's rule
+pub rule-succeeds : (s : State) (c : Call) (answer : ℕ) (verdict : State → Call → Verdict) → hypercall (c .number) ≡ rule verdict →
+    replyOf (rules s c) ≡ Success answer → rules s c ≡ verdict s c
+unfolding rules called
+rule-succeeds s c answer verdict e h =
+    let on-sound = succeeds (soundState s) Damaged (called s c (hypercall (c .number))) answer (λ z. omega arith) h in
+    let by-rule = on-sound ∙ ap (called s c) e in
+    by-rule ∙ succeeds (isEc s (c .caller)) BadCaller (verdict s c) answer (λ z. omega arith) (ap replyOf (sym by-rule) ∙ h)
 
 -- a call takes the steps of its verdict
 pub after-verdict : (s : State) (c : Call) (given : Verdict) → rules s c ≡ given → after s c ≡ run (effectsOf given) s

@@ -11,8 +11,8 @@ are-sized-requires c κs = search needs
 returns : tie.Need-returns
 returns c = search (sizes-broken, needs)
 
-count-pds-requires : tie.Need-count-pds-requires
-count-pds-requires c κs = search (objects-long, needs)
+pds-in-turn-requires : tie.Need-pds-in-turn-requires
+pds-in-turn-requires c κs = search (objects-long, needs)
 
 enum-known-pds : tie.Need-enum-known-pds
 enum-known-pds c = search needs
@@ -21,12 +21,12 @@ enum-told : tie.Need-enum-told
 enum-told c = search needs
 
 returns-2 : tie.Need-returns-2
-returns-2 c = pds-broken _ _ (c .before .before .count-pds .ensures) (c .enum-told .given .1)
+returns-2 c = pds-broken _ _ (c .before .before .pds-in-turn .ensures) (c .enum-told .given .1)
 
 records-keep-requires : tie.Need-records-keep-requires
 records-keep-requires c κs =
     let counted = c .before .before .before in
-    numbered-so _ _ _ (counted .before .before .are-sized .ensures) (counted .before .if1 .left) _ (counted .count-pds .ensures) (c .before .pds .given .1)
+    numbered-so _ _ _ (counted .before .before .are-sized .ensures) (counted .before .if1 .left) _ (counted .pds-in-turn .ensures) (c .before .pds .given .1)
 
 returns-3 : tie.Need-returns-3
 returns-3 c = search (records-broken, needs)
@@ -42,7 +42,7 @@ places-keep-requires c κs =
     let found = c .before .before .before .before .before in
     let counted = found .before .before in
     let numbered =
-    numbered-so _ _ _ (counted .before .before .are-sized .ensures) (counted .before .if1 .left) _ (counted .count-pds .ensures) (found .pds .given .1) in (
+    numbered-so _ _ _ (counted .before .before .are-sized .ensures) (counted .before .if1 .left) _ (counted .pds-in-turn .ensures) (found .pds .given .1) in (
       search (places-long, needs),
       kept-so numbered _ (c .before .before .before .records-keep .ensures) (c .before .before .if2 .left),
       answered-yes _ _ (c .before .hypervisor-keeps .ensures) (c .if3 .left),
@@ -54,7 +54,7 @@ returns-5 c =
     let counted = found .before .before in
     let right = counted .before in
     let numbered =
-    numbered-so _ _ _ (right .before .are-sized .ensures) (right .if1 .left) _ (counted .count-pds .ensures) (found .pds .given .1) in
+    numbered-so _ _ _ (right .before .are-sized .ensures) (right .if1 .left) _ (counted .pds-in-turn .ensures) (found .pds .given .1) in
     places-decide _ _ (answered-yes _ _ (right .before .are-sized .ensures) (right .if1 .left))
     (kept-so numbered _ (c .before .before .before .before .records-keep .ensures) (c .before .before .before .if2 .left)) (c .places-keep .ensures)
 
@@ -64,7 +64,7 @@ is-sound-spec =
     (tie.spec
     are-sized-requires
     returns
-    count-pds-requires
+    pds-in-turn-requires
     enum-known-pds
     enum-told
     returns-2

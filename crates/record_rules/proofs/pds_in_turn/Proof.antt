@@ -10,8 +10,8 @@ use Rattle.interface.specs.Damage.{pdsBelow, pd-rule}
 use Rattle.record_rules.specs.RecordKeeping.{recordsIn}
 use Rattle.record_rules.proofs.LoopLaws.{all-below-none, all-below-more, all-below-done, all-below-broken}
 use Rattle.record_rules.proofs.PdLaws.{pds-small, no-pds, pds-next, pds-end, in-turn, out-of-turn}
-use Rattle.record_rules.proofs.count_pds.Statement.{statement}
-use Rattle.record_rules.proofs.count_pds.Tie as tie
+use Rattle.record_rules.proofs.pds_in_turn.Statement.{statement}
+use Rattle.record_rules.proofs.pds_in_turn.Tie as tie
 
 abbrev Inv-loop : tie.InvT-loop
 Inv-loop objects before₀ at₀ before at = (at ≤ records) × (before ≡ pdsBelow (recordsIn objects) at) × (allBelow at (pd-rule (recordsIn objects)) ≡ true)
@@ -52,8 +52,8 @@ returns-2 c =
     let loop = c .before .loop in
     in-turn _ _ (sym (all-below-done _ _ (loop .at) (omega arith) (omega arith) (loop .inv .2))) (pds-end _ _ (loop .at) _ (omega arith) (omega arith) (loop .inv .1))
 
-pub count-pds-spec : {M : Type 1} → statement M
-count-pds-spec =
+pub pds-in-turn-spec : {M : Type 1} → statement M
+pds-in-turn-spec =
     tie.close
     (tie.spec
     Inv-loop
