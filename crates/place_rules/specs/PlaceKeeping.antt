@@ -64,7 +64,7 @@ extentOf space = record { space = space; from = part * start space; end = part *
 
 -- so many places are looked at together: each space has a multiple of them
 abbrev pub group : ℕ
-group = 16
+group = 32
 
 -- whether the words of so many places from one on are all 0
 abbrev pub blank : List ℕ → ℕ → ℕ → Bool

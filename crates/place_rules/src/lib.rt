@@ -24,7 +24,7 @@ const INTERRUPTS_END: u32 = sizes::OBJECT_START + boot::ROOT_PD;
 const LEFT_NULL: u32 = sizes::STRIDE - INTERRUPTS_END;
 
 // Places are looked at in groups, so that null ones are passed over quickly: the places of a group. Each space has a multiple of them.
-const GROUP: u32 = 16;
+const GROUP: u32 = 32;
 
 // A domain is cut into as many parts as a word has values, so that a product that wraps takes whole domains off: these parts, and those of one place, rounded up.
 const WHOLE: u64 = 1 << 32;
