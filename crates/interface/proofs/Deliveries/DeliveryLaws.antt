@@ -364,8 +364,8 @@ module _ (s : State) (c : Call) (answer : ℕ) (effects : List Effect) (block : 
 -- a CALL that succeeds passed its five checks, and delivers
 five-passed : (whole held other same fits : Bool) (last : Verdict) (answer : ℕ) →
     let all =
-        require whole else BadPar then require held else BadCap then require other else ComTim then require same else BadCpu then
-        require fits else BadPar then last in
+    require whole else BadPar then require held else BadCap then require other else ComTim then require same else BadCpu then
+    require fits else BadPar then last in
     replyOf all ≡ Success answer → all ≡ last
 five-passed true true true true true last answer h = refl
 five-passed true true true true false last answer h = absurd (omega (arith, ap statusOf h))
@@ -383,10 +383,10 @@ call-delivers s c answer n h =
     let callee = s .objects (objectIn s portal) ecWord in
     let moved = transfer s (callerDomain s c) (s .objects callee domainWord) (c .source) (c .target) in
     let delivers : rules s c ≡ deliver (moved .filled) (moved .effects) (moved .block) =
-        by-rule ∙
-        five-passed (eqb (length (c .source)) blockWords && eqb (length (c .target)) blockWords) (permitted s portal PT callBit) (not (eqb callee (c .caller)))
-        (eqb (s .objects callee cpuWord) (s .objects (c .caller) cpuWord)) (payloadFits (word (c .source) 0))
-        (deliver (moved .filled) (moved .effects) (moved .block)) answer (ap replyOf (sym by-rule) ∙ h) in
+    by-rule ∙
+    five-passed (eqb (length (c .source)) blockWords && eqb (length (c .target)) blockWords) (permitted s portal PT callBit) (not (eqb callee (c .caller)))
+    (eqb (s .objects callee cpuWord) (s .objects (c .caller) cpuWord)) (payloadFits (word (c .source) 0))
+    (deliver (moved .filled) (moved .effects) (moved .block)) answer (ap replyOf (sym by-rule) ∙ h) in
     let same : moved .filled ≡ answer = success-same (ap replyOf (sym delivers) ∙ h) in
     (moved .effects, moved .block, delivers ∙ ap (λ (count : ℕ). deliver count (moved .effects) (moved .block)) same)
   where

@@ -246,8 +246,8 @@ module _ (s : State) (c : Call) (k : Sound s) (e : isEc s (c .caller) ≡ true) 
 -- a CREATE_PD that succeeds passed its six checks, and grants
 six-passed : (null held bound cpu good room : Bool) (last : Verdict) (answer : ℕ) →
     let all =
-        require null else BadCap then require held else BadCap then require bound else BadCap then require cpu else BadCpu then
-        require good else BadPar then require room else NoRoom then last in
+    require null else BadCap then require held else BadCap then require bound else BadCap then require cpu else BadCpu then
+    require good else BadPar then require room else NoRoom then last in
     replyOf all ≡ Success answer → all ≡ last
 six-passed true true true true true true last answer h = refl
 six-passed true true true true true false last answer h = absurd (omega (arith, ap statusOf h))
@@ -263,13 +263,12 @@ unfolding hypercall createPd creation
 pd-grants s c answer n h =
     let by-rule = rule-succeeds s c answer createPd (rw n) h in
     let steps =
-        make (freeRecord s) (PD ∷ nextDomain s ∷ []) ∷ initialGives (callerDomain s c) (nextDomain s) (reading (c .third)) ++
-        (hold (newPlace s c) (freeRecord s) ∷ []) in
-    (
+    make (freeRecord s) (PD ∷ nextDomain s ∷ []) ∷ initialGives (callerDomain s c) (nextDomain s) (reading (c .third)) ++
+    (hold (newPlace s c) (freeRecord s) ∷ []) in (
       steps,
       by-rule ∙
-      six-passed (not (live (s .caps (newPlace s c)))) (permitted s (pdPlace s c) PD (createBit PD)) true true (initialGood (reading (c .third)))
-      (ltb (freeRecord s) records && ltb (nextDomain s) domains) (grant 0 steps) answer (ap replyOf (sym by-rule) ∙ h),
+          six-passed (not (live (s .caps (newPlace s c)))) (permitted s (pdPlace s c) PD (createBit PD)) true true (initialGood (reading (c .third)))
+          (ltb (freeRecord s) records && ltb (nextDomain s) domains) (grant 0 steps) answer (ap replyOf (sym by-rule) ∙ h),
     )
 
 pub delivers-range : DeliversRange
