@@ -359,6 +359,10 @@ home-below {pds = pds} numbered caps p l =
     lt-ltb p (stride * (pds + 1)) (omega arith)) ∙
     home-counted numbered caps (domainOf p) (domainOf p) refl)
 
+pub domain-without-pd : {table : List ℕ} {pds : ℕ} → Numbered table pds → (caps : ℕ → Cap) (p : ℕ) → stride ≤ p → stride * (pds + 1) ≤ p →
+    (eqb (domainOf p) hypervisor || hasPd (record { caps = caps; objects = objectAt table }) (domainOf p)) ≡ false
+domain-without-pd {pds = pds} numbered caps p past late = sym (home-below numbered caps p past) ∙ le-ltb p (stride * (pds + 1)) late
+
 -- the places of a group have its space and its domain in common
 module _ (first p : ℕ) (aligned : first % group ≡ 0) (from : first ≤ p) (before : p < first + group) where
   abbrev offset : ℕ
@@ -381,18 +385,15 @@ module _ (first p : ℕ) (aligned : first % group ≡ 0) (from : first ≤ p) (b
       ltb first (stride * (pds + 1)) ≡ (eqb (domainOf p) hypervisor || hasPd (record { caps = caps; objects = objectAt table }) (domainOf p))
   group-home numbered caps past = rw group-domain (home-below numbered caps first past)
 
-  pub domain-without-pd : {table : List ℕ} {pds : ℕ} → Numbered table pds → (caps : ℕ → Cap) → stride ≤ first → stride * (pds + 1) ≤ first →
-      (eqb (domainOf p) hypervisor || hasPd (record { caps = caps; objects = objectAt table }) (domainOf p)) ≡ false
-  domain-without-pd {pds = pds} numbered caps past late = sym (group-home numbered caps past) ∙ le-ltb first (stride * (pds + 1)) late
-
-  pub around-home : (tables : Tables) {pds : ℕ} → Passed tables pds first → first < places → first < stride * (pds + 1) → Around tables p (spaceOf first) true
-  around-home tables {pds} passed l few =
+  pub around-home : (tables : Tables) → Passed tables first → first < places → Around tables p (spaceOf first) true
+  around-home tables passed l =
       record {
         places-long = passed .places-long;
         objects-long = passed .kept .numbered .long;
         is-place = omega arith;
         in-space = sym group-space;
-        at-home = sym (lt-ltb first (stride * (pds + 1)) few) ∙ group-home (passed .kept .numbered) (shown tables .caps) (passed .past-hypervisor);
+        at-home =
+            sym (lt-ltb first (stride * (passed .pds + 1)) (passed .has-pd)) ∙ group-home (passed .kept .numbered) (shown tables .caps) (passed .past-hypervisor);
       }
 
 -- a place that keeps the rules together keeps each

@@ -21,8 +21,9 @@ use Rattle.interface.specs.Damage.{sameCap, fixed-place, hasPd, null-place, isR
 use Rattle.interface.proofs.Basics.BoolLaws.{cases, and-left, and-right, same-test, each-of-four}
 use Rattle.interface.proofs.Basics.BelowLaws.{all-below-at, all-below}
 use Rattle.interface.proofs.Sound.PlaceFacts.{same-cap, null-cap, null-test, depth-small, ChildOf, child-facts, child-test, Lineage, no-parent, child, LivePlace, live-facts, live-test}
-use Rattle.place_rules.specs.PlaceKeeping.{placesIn, placeKeeps, parentFits, quickKeeps, group, blank, Passed}
+use Rattle.place_rules.specs.PlaceKeeping.{placesIn, placeKeeps, parentFits, quickKeeps, blank}
 use Rattle.record_rules.specs.RecordKeeping.{Kept}
+use Rattle.record_rules.proofs.LoopLaws.{answered-yes, answered-no}
 use Rattle.place_rules.proofs.PlaceTests.{link-before, link-past, past-hypervisor, fixed-past, fixed-null, parent-past, place-parts, domain-without-pd}
 use Rattle.place_rules.proofs.HypervisorLaws.{hypervisor-below}
 
@@ -324,17 +325,42 @@ rest-decides table before =
     (fixed-null (placesIn table) p (sameCap (capAt table p) nothing) (capAt table p) nothing from l refl refl refl ∙
     all-below-at stride (fixed-place (placesIn table)) t p l)))
 
--- the places of a blank group pass
-pub blank-keeps : (tables : Tables) {pds first : ℕ} → Passed tables pds first → blank (tables .places) first group ≡ true →
-    allBelow (first + group) (quickKeeps (shown tables)) ≡ true
-blank-keeps tables {first = first} before empty =
+-- a run of null places goes on with those of a blank one, up to the end
+abbrev pub Nulls : List ℕ → ℕ → ℕ → Type 0
+Nulls table first end = (p : ℕ) → first ≤ p → p < end → capAt table p ≡ nothing
+
+module _ (table : List ℕ) (first : ℕ) where
+  pub nulls-none : Nulls table first first
+  nulls-none p from before = absurd (omega arith)
+
+  pub nulls-more : (at count : ℕ) (answer : Bool) → Nulls table first at → answer ≡ blank table at count → not answer ≡ false → Nulls table first (at + count)
+  nulls-more at count answer nulls asked f p from before =
+      cases (ltb p at) (λ (t : ltb p at ≡ true). nulls p from (ltb-true p at t))
+      (λ (g : ltb p at ≡ false). blank-null table at count p (ltb-false p at g) before (answered-yes answer (blank table at count) asked f))
+
+  pub nulls-broken : (end at count : ℕ) (answer : Bool) → first ≤ at → at + count ≤ end → answer ≡ blank table at count → not answer ≡ true →
+      false ≡ blank table first (end - first)
+  nulls-broken end at count answer from within asked f =
+      cases (blank table first (end - first))
+      (λ (t : blank table first (end - first) ≡ true).
+      answered-no answer (blank table at count) asked f
+      (null-blank table at count (λ p past before. blank-null table first (end - first) p (omega arith) (omega arith) t)))
+      (λ (g : blank table first (end - first) ≡ false). sym g)
+
+  pub nulls-done : (end at : ℕ) → end ≤ at → Nulls table first at → true ≡ blank table first (end - first)
+  nulls-done end at late nulls = sym (null-blank table first (end - first) (λ p from before. nulls p from (omega arith)))
+
+-- blank places pass
+pub blank-keeps : (tables : Tables) (first count : ℕ) → stride ≤ first → allBelow first (quickKeeps (shown tables)) ≡ true →
+    blank (tables .places) first count ≡ true → allBelow (first + count) (quickKeeps (shown tables)) ≡ true
+blank-keeps tables first count beyond before empty =
     let s = shown tables in
-    all-below (first + group) (quickKeeps s)
+    all-below (first + count) (quickKeeps s)
     (λ p l.
-    cases (ltb p first) (λ (b : ltb p first ≡ true). all-below-at first (quickKeeps s) (before .passed) p (ltb-true p first b))
+    cases (ltb p first) (λ (b : ltb p first ≡ true). all-below-at first (quickKeeps s) before p (ltb-true p first b))
     (λ (f : ltb p first ≡ false).
-    let same : s .caps p ≡ nothing = blank-null (tables .places) first group p (ltb-false p first f) l empty in
-    let past : stride ≤ p = omega (arith, before .past-hypervisor, ltb-false p first f) in
+    let same : s .caps p ≡ nothing = blank-null (tables .places) first count p (ltb-false p first f) l empty in
+    let past : stride ≤ p = omega (arith, beyond, ltb-false p first f) in
     sym (quick-null s p past (s .caps p) refl nothing (sameCap (s .caps p) nothing) (ap (λ (cap : Cap). cap .permissions) same) refl refl) ∙ rw same))
 
 -- a place of a domain without a PD passes only where it is null
@@ -358,18 +384,19 @@ without-pd-null s p past away kept =
     (true≢false
     (sym kept ∙ sym (quick-child s p past (s .caps p) refl (spaceOf p) (homely s p) alive refl refl fits (eqb-false (s .caps p .parent) 0 g) refl) ∙ rw away))))
 
--- so a group there that is not blank does not pass
-pub without-pd-broken : (tables : Tables) {pds first : ℕ} (answer : Bool) → Passed tables pds first → stride * (pds + 1) ≤ first →
-    answer ≡ blank (tables .places) first group → answer ≡ false → false ≡ allBelow (first + group) (quickKeeps (shown tables))
-without-pd-broken tables {first = first} answer before late is-answer no-answer =
+-- so the domains without a PD decide by being blank
+pub blank-decides : (tables : Tables) {pds : ℕ} → Kept (tables .objects) pds → (first : ℕ) (answer : Bool) → stride ≤ first → stride * (pds + 1) ≤ first →
+    first ≤ places → allBelow first (quickKeeps (shown tables)) ≡ true → answer ≡ blank (tables .places) first (places - first) →
+    answer ≡ allBelow places (quickKeeps (shown tables))
+blank-decides tables kept first answer beyond late small before asked =
     let s = shown tables in
-    cases (allBelow (first + group) (quickKeeps s))
-    (λ (t : allBelow (first + group) (quickKeeps s) ≡ true).
-    let empty : blank (tables .places) first group ≡ true =
-    null-blank (tables .places) first group
+    let count = places - first in
+    let end : first + count ≡ places = omega arith in
+    asked ∙
+    same-test (blank (tables .places) first count) (allBelow places (quickKeeps s))
+    (λ (t : blank (tables .places) first count ≡ true). rw end at (blank-keeps tables first count beyond before t))
+    (λ (t : allBelow places (quickKeeps s) ≡ true).
+    null-blank (tables .places) first count
     (λ p from inside.
-    without-pd-null s p (omega (arith, before .past-hypervisor))
-    (domain-without-pd first p (before .aligned) from inside (before .kept .numbered) (s .caps) (before .past-hypervisor) late)
-    (all-below-at (first + group) (quickKeeps s) t p inside)) in
-    absurd (true≢false (sym empty ∙ sym is-answer ∙ no-answer)))
-    (λ (f : allBelow (first + group) (quickKeeps s) ≡ false). sym f)
+    without-pd-null s p (omega arith) (domain-without-pd (kept .numbered) (s .caps) p (omega arith) (omega arith))
+    (all-below-at places (quickKeeps s) t p (omega arith))))

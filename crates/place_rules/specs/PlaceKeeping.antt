@@ -66,6 +66,10 @@ extentOf space = record { space = space; from = part * start space; end = part *
 abbrev pub group : ℕ
 group = 32
 
+-- and so many where no domain has a PD: each domain has a multiple of them
+abbrev pub run : ℕ
+run = 64
+
 -- whether the words of so many places from one on are all 0
 abbrev pub blank : List ℕ → ℕ → ℕ → Bool
 blank table first count = allBelow (placeWords * count) (λ i. eqb (word table (placeWords * first + i)) 0)
@@ -85,10 +89,13 @@ pub record Stretch (begin from end permissions : ℕ) : Type 0 where
   pub in-domain : end ≤ stride
   pub as-boot : (p : ℕ) → from ≤ p → p < end → bootCap p ≡ parentless (p - begin) permissions
 
--- a place table and records that keep their rules, where groups of places outside domain 0 have been passed over up to one, and all places before it pass the shorter test
-pub record Passed (tables : Tables) (pds first : ℕ) : Type 0 where
+-- a place table and records that keep their rules, where groups of places outside domain 0 have been passed over up to one of a domain with a PD,
+-- and all places before it pass the shorter test
+pub record Passed (tables : Tables) (first : ℕ) : Type 0 where
+  pub pds : ℕ
   pub places-long : length (tables .places) ≡ placeTableWords
   pub kept : Kept (tables .objects) pds
   pub past-hypervisor : stride ≤ first
+  pub has-pd : first < stride * (pds + 1)
   pub aligned : first % group ≡ 0
   pub passed : allBelow first (quickKeeps (shown tables)) ≡ true

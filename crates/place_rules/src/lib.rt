@@ -1,6 +1,6 @@
 // The rules that places keep.
 ghost use mathlib.Core.Path.{_≡_};
-ghost use Prim.Native.Nat.{_+_, _<_, _≤_};
+ghost use Prim.Native.Nat.{_+_, _-_, _%_, _<_, _≤_};
 ghost use mathlib.Core.Bool.{true, _&&_, _||_};
 ghost use lib.Dec.{eqb, leb, ltb};
 ghost use lib.ListN.{length};
@@ -9,7 +9,7 @@ ghost use Rattle.interface.specs.Basics.{allBelow};
 ghost use Rattle.interface.specs.Places.{nothing, kindWord, objectAt, objectTableWords, placeTableWords, live, capAt, tables, view, greatestOf};
 ghost use Rattle.interface.specs.Damage.{sameCap, fixed-place, live-place};
 ghost use Rattle.record_rules.specs.RecordKeeping.{recordsIn, Kept};
-ghost use Rattle.place_rules.specs.PlaceKeeping.{placesIn, placeKeeps, parentFits, lineageKeeps, greatestAllowed, quickKeeps, extentOf, group, blank, Around, Stretch, Passed};
+ghost use Rattle.place_rules.specs.PlaceKeeping.{placesIn, placeKeeps, parentFits, lineageKeeps, greatestAllowed, quickKeeps, extentOf, group, run, blank, Around, Stretch, Passed};
 use descriptor::Cap;
 use descriptor::FoundPlace;
 use descriptor::Place;
@@ -25,6 +25,9 @@ const LEFT_NULL: u32 = sizes::STRIDE - INTERRUPTS_END;
 
 // Places are looked at in groups, so that null ones are passed over quickly: the places of a group. Each space has a multiple of them.
 const GROUP: u32 = 32;
+
+// The domains without a PD are null, and looked at in longer runs: the places of a run. Each domain has a multiple of them.
+const RUN: u32 = 64;
 
 // A domain is cut into as many parts as a word has values, so that a product that wraps takes whole domains off: these parts, and those of one place, rounded up.
 const WHOLE: u64 = 1 << 32;
@@ -210,16 +213,28 @@ fn is_blank(table: &[u32], first: u32, count: u32) -> bool
     is_0
 }
 
-// Whether the places up to the end of a group outside domain 0 pass the shorter test, where those before it do. A group lies in one space of one domain.
-fn group_keeps(table: &[u32], objects: &[u32], pds: u32, first: u32) -> bool
-    requires { ⌜ Passed (tables (now table) (now objects)) pds first × (first < places) ⌝ }
+// Whether the words of all places from one on are 0, looked at run by run.
+fn rest_is_blank(table: &[u32], first: u32) -> bool
+    requires { ⌜ (length (now table) ≡ placeTableWords) × (first ≤ places) × (first % run ≡ 0) ⌝ }
+    ensures { λ r. ⌜ r ≡ blank (now (table .entry)) first (places - first) ⌝ }
+{
+    let mut at: u32 = first;
+    while at < sizes::PLACES {
+        if !is_blank(table, at, RUN) {
+            return false;
+        }
+        at += RUN;
+    }
+    true
+}
+
+// Whether the places up to the end of a group of a domain with a PD pass the shorter test, where those before it do. A group lies in one space of one domain.
+fn group_keeps(table: &[u32], objects: &[u32], first: u32) -> bool
+    requires { ⌜ Passed (tables (now table) (now objects)) first × (first < places) ⌝ }
     ensures { λ r. ⌜ r ≡ allBelow (first + group) (quickKeeps (view (now (table .entry)) (now (objects .entry)))) ⌝ }
 {
     if is_blank(table, first, GROUP) {
         return true;
-    }
-    if sizes::STRIDE * (pds + 1) <= first {
-        return false;
     }
     let extent = extent_of(space_of(first));
     let end = first + GROUP;
@@ -307,17 +322,18 @@ pub fn hypervisor_keeps(table: &[u32]) -> bool
     is_blank(table, INTERRUPTS_END, LEFT_NULL)
 }
 
-// Whether each place keeps the rules, where the records keep theirs and domain 0 is as at boot.
+// Whether each place keeps the rules, where the records keep theirs and domain 0 is as at boot. The domains without a PD come last, and are null.
 pub fn places_keep(table: &[u32], objects: &[u32], pds: u32) -> bool
     requires { ⌜ (length (now table) ≡ placeTableWords) × Kept (now objects) pds × (allBelow stride (fixed-place (placesIn (now table))) ≡ true) ⌝ }
     ensures { λ r. ⌜ r ≡ allBelow places (placeKeeps (view (now (table .entry)) (now (objects .entry)))) ⌝ }
 {
+    let end = sizes::STRIDE * (pds + 1);
     let mut first: u32 = sizes::STRIDE;
-    while first < sizes::PLACES {
-        if !group_keeps(table, objects, pds, first) {
+    while first < end {
+        if !group_keeps(table, objects, first) {
             return false;
         }
         first += GROUP;
     }
-    true
+    rest_is_blank(table, end)
 }

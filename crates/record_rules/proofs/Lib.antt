@@ -4,3 +4,4 @@ pub mod TailLaws
 pub mod RecordTests
 pub mod PdLaws
 pub mod RecordParts
+pub mod RestLaws

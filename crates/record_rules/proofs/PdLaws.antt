@@ -1,17 +1,17 @@
 -- PDs are numbered 1, 2, .. in the order of their records, so a domain has a PD exactly where it is one of as many numbers as there are PDs.
-use Prim.Native.Nat.{ℕ, _+_, _-_, _≤_}
+use Prim.Native.Nat.{ℕ, _+_, _-_, _≤_, _<_}
 use mathlib.Core.Path.{_≡_, refl}
-use mathlib.Core.Bool.{Bool, true, false, _&&_, _||_}
+use mathlib.Core.Bool.{Bool, true, false, _&&_, _||_, and-false}
 use mathlib.Core.List.{List}
 use native.Mathlib.Numerals.{add-one}
 use native.Mathlib.Omega.{arith}
-use lib.Dec.{eqb, leb}
-use borrow.Author.Tests.{leb-true, le-leb, eqb-true}
-use Rattle.words.specs.Sizes.{records}
+use lib.Dec.{eqb, leb, ltb}
+use borrow.Author.Tests.{ltb-true, leb-true, le-leb, eqb-true, eqb-false}
+use Rattle.words.specs.Sizes.{domains, records}
 use Rattle.interface.specs.Basics.{if_then_else_, allBelow, anyBelow, countBelow}
 use Rattle.interface.specs.Places.{Cap, State, objectAt, PD, domainWord, kindOf}
 use Rattle.interface.specs.Boot.{hypervisor}
-use Rattle.interface.specs.Damage.{pdsBelow, pd-rule, hasPd, between1}
+use Rattle.interface.specs.Damage.{used-first, pdsBelow, pd-rule, hasPd, between1}
 use Rattle.interface.proofs.Basics.BoolLaws.{and-left, and-right, both, same-test, cases}
 use Rattle.interface.proofs.Basics.BelowLaws.{all-below-at, any-below-at, count-below-past, count-below-reaches}
 use Rattle.interface.proofs.Sound.PlaceFacts.{pd-numbered}
@@ -84,33 +84,53 @@ home-found table caps domain found h = rw h
 
 -- what a count of PDs answers, and what it tells
 module _ (s : State) where
+  -- whether used records and free ones keep their rule, and PDs theirs
+  abbrev turning : Bool
+  turning = allBelow records (used-first s) && allBelow records (pd-rule s)
+
   pub out-of-turn : allBelow records (pd-rule s) ≡ false → OutOfTurn ≡ countedPds s
-  out-of-turn f = rw f
+  out-of-turn f = rw (f, and-false (allBelow records (used-first s)))
 
-  pub in-turn : (pds : ℕ) → allBelow records (pd-rule s) ≡ true → pds ≡ pdsBelow s records → InTurn pds ≡ countedPds s
-  in-turn pds t e = rw (t, e)
+  pub out-of-use : allBelow records (used-first s) ≡ false → OutOfTurn ≡ countedPds s
+  out-of-use f = rw f
 
-  pub turns-kept : (pds : ℕ) → countedPds s ≡ InTurn pds → (allBelow records (pd-rule s) ≡ true) × (pds ≡ pdsBelow s records)
+  pub in-turn : (pds : ℕ) → allBelow records (used-first s) ≡ true → allBelow records (pd-rule s) ≡ true → pds ≡ pdsBelow s records → InTurn pds ≡ countedPds s
+  in-turn pds u t e = rw (u, t, e)
+
+  pub turns-kept : (pds : ℕ) → countedPds s ≡ InTurn pds →
+      (allBelow records (used-first s) ≡ true) × (allBelow records (pd-rule s) ≡ true) × (pds ≡ pdsBelow s records)
   turns-kept pds e =
-      cases (allBelow records (pd-rule s))
-      (λ (t : allBelow records (pd-rule s) ≡ true). let same : InTurn (pdsBelow s records) ≡ InTurn pds = rw t at e in (t, cc))
-      (λ (f : allBelow records (pd-rule s) ≡ false).
+      cases turning
+      (λ (t : turning ≡ true).
+      let same : InTurn (pdsBelow s records) ≡ InTurn pds = rw t at e in
+      (and-left (allBelow records (used-first s)) (allBelow records (pd-rule s)) t, and-right (allBelow records (used-first s)) (allBelow records (pd-rule s)) t, cc))
+      (λ (f : turning ≡ false).
       let wrong : OutOfTurn ≡ InTurn pds = rw f at e in
       let never : _≡_ {A = ℕ} 0 1 = cc in
       absurd (omega arith))
 
-  pub turns-broken : countedPds s ≡ OutOfTurn → allBelow records (pd-rule s) ≡ false
+  pub turns-broken : countedPds s ≡ OutOfTurn → (allBelow records (used-first s) && allBelow records (pd-rule s)) ≡ false
   turns-broken e =
-      cases (allBelow records (pd-rule s))
-      (λ (t : allBelow records (pd-rule s) ≡ true).
+      cases turning
+      (λ (t : turning ≡ true).
       let wrong : InTurn (pdsBelow s records) ≡ OutOfTurn = rw t at e in
       let never : _≡_ {A = ℕ} 0 1 = cc in
       absurd (omega arith))
-      (λ (f : allBelow records (pd-rule s) ≡ false). f)
+      (λ (f : turning ≡ false). f)
 
--- there are no more PDs than records
-pub few-pds : {table : List ℕ} {pds : ℕ} → Numbered table pds → pds ≤ records
-few-pds {table} numbered = rw (numbered .counted) (pds-small (recordsIn table) records)
+-- the last PD's domain is one of the domains, so there are fewer PDs than these
+pub few-pds : {table : List ℕ} {pds : ℕ} → Numbered table pds → pds < domains
+unfolding pdsBelow pd-rule
+few-pds {table} {pds} numbered =
+    let s = recordsIn table in
+    cases (eqb pds 0) (λ (t : eqb pds 0 ≡ true). let none = eqb-true pds 0 t in omega arith)
+    (λ (f : eqb pds 0 ≡ false).
+    let some = eqb-false pds 0 f in
+    let (r, l, t, e) = count-below-reaches records (λ q. eqb (kindOf s q) PD) (pds - 1) (omega (arith, numbered .counted)) in
+    let own = s .objects r domainWord in
+    let rule = all-below-at records (pd-rule s) (numbered .in-turn) r l in
+    let small : own < domains = ltb-true own domains (and-right (eqb own (pdsBelow s r + 1)) (ltb own domains) (rw t at rule)) in
+    omega (arith, pd-numbered s r rule t))
 
 -- the same of an object table whose PDs have been counted
 pub home-counted : {table : List ℕ} {pds : ℕ} → Numbered table pds → (caps : ℕ → Cap) (domain own : ℕ) → domain ≡ own →

@@ -18,10 +18,10 @@ module _ (n : ℕ) (test : ℕ → Bool) where
   from-zero = ap (allBelow n) (fun-ext (λ k. rw (leb·suc-zero k)))
 
   -- a number past the first passes the test where all from the first on do
-  from-at : (first : ℕ) → allFrom first ≡ true → (k : ℕ) → first ≤ k → k < n → test k ≡ true
+  pub from-at : (first : ℕ) → allFrom first ≡ true → (k : ℕ) → first ≤ k → k < n → test k ≡ true
   from-at first h k past l = rw (le-ltb k first past) at (all-below-at n (λ k. ltb k first || test k) h k l)
 
-  from-so : (first : ℕ) → ((k : ℕ) → first ≤ k → k < n → test k ≡ true) → allFrom first ≡ true
+  pub from-so : (first : ℕ) → ((k : ℕ) → first ≤ k → k < n → test k ≡ true) → allFrom first ≡ true
   from-so first h =
       all-below n (λ k. ltb k first || test k)
       (λ k l.

@@ -1,5 +1,5 @@
 -- What the functions over records cite beside the rules of damage: the rules of a record taken together, and records whose PDs are numbered and counted.
-use Prim.Native.Nat.{ℕ}
+use Prim.Native.Nat.{ℕ, _*_}
 use mathlib.Core.Path.{_≡_}
 use mathlib.Core.Bool.{Bool, true, _&&_, _||_}
 use mathlib.Core.List.{List, [], _∷_}
@@ -17,6 +17,10 @@ use Rattle.record_rules.specs.declared.CountedPds.the-variants.{InTurn, 
 unfoldable pub clearFrom : State → ℕ → ℕ → Bool
 clearFrom s r index = allBelow recordWords (λ k. ltb k index || eqb (s .objects r k) 0)
 
+-- whether the words of the records from one on are 0
+unfoldable pub restClear : List ℕ → ℕ → Bool
+restClear table r = allBelow objectTableWords (λ i. ltb i (recordWords * r) || eqb (word table i) 0)
+
 -- whether a record's words are four given ones and then 0
 unfoldable pub hasWords : State → ℕ → ℕ → ℕ → ℕ → ℕ → Bool
 hasWords s r kind first second third = allBelow recordWords (λ k. eqb (s .objects r k) (word (kind ∷ first ∷ second ∷ third ∷ []) k))
@@ -25,13 +29,14 @@ hasWords s r kind first second third = allBelow recordWords (λ k. eqb (s .objec
 unfoldable pub recordKeeps : State → ℕ → Bool
 recordKeeps s r = fixed-record s r && interrupt-rule s r && unnamed-rule s r && used-first s r && ec-rule s r && sc-rule s r && pt-rule s r
 
--- how many PDs there are, if each keeps its rule
+-- how many PDs there are, if each keeps its rule and so do used records and free ones
 abbrev pub countedPds : State → CountedPds
-countedPds s = if allBelow records (pd-rule s) then InTurn (pdsBelow s records) else OutOfTurn
+countedPds s = if allBelow records (used-first s) && allBelow records (pd-rule s) then InTurn (pdsBelow s records) else OutOfTurn
 
--- the PDs of an object table keep their rule, and are so many
+-- used records come first in an object table, and its PDs keep their rule and are so many
 pub record Numbered (table : List ℕ) (pds : ℕ) : Type 0 where
   pub long : length table ≡ objectTableWords
+  pub used : allBelow records (used-first (recordsIn table)) ≡ true
   pub in-turn : allBelow records (pd-rule (recordsIn table)) ≡ true
   pub counted : pds ≡ pdsBelow (recordsIn table) records
 

@@ -8,7 +8,7 @@ ghost use Rattle.words.specs.Sizes.{records, recordWords};
 ghost use Rattle.interface.specs.Basics.{if_then_else_, allBelow};
 ghost use Rattle.interface.specs.Places.{PD, SM, objectTableWords, domainWord, objectAt, kindOf};
 ghost use Rattle.interface.specs.Damage.{fixed-record, interrupt-rule, unnamed-rule, used-first, pdsBelow, pd-rule, hasPd, isEc, ec-rule, sc-rule, pt-rule};
-ghost use Rattle.record_rules.specs.RecordKeeping.{recordsIn, clearFrom, hasWords, recordKeeps, Numbered, countedPds};
+ghost use Rattle.record_rules.specs.RecordKeeping.{recordsIn, clearFrom, restClear, hasWords, recordKeeps, Numbered, countedPds};
 use descriptor::ObjectNumber;
 use words::sizes;
 
@@ -17,7 +17,7 @@ const GREATEST_PRIORITY: u32 = 255;
 
 const GREATEST_QUANTUM: u32 = 1048575;
 
-// The number of PDs, if they number their domains in turn.
+// The number of PDs, if used records come first and PDs number their domains in turn.
 pub enum CountedPds {
     InTurn(u32),
     OutOfTurn,
@@ -48,6 +48,20 @@ fn is_clear_from(objects: &[u32], number: u32, index: usize) -> bool
     let mut at = index;
     while at < sizes::RECORD_WORDS {
         clear = clear & (word_of(objects, number, at) == 0);
+        at += 1;
+    }
+    clear
+}
+
+// Whether the words of the records from one on are 0.
+fn rest_is_clear(objects: &[u32], number: u32) -> bool
+    requires { ⌜ (length (now objects) ≡ objectTableWords) × (number ≤ records) ⌝ }
+    ensures { λ r. ⌜ r ≡ restClear (now (objects .entry)) number ⌝ }
+{
+    let mut clear = true;
+    let mut at = sizes::RECORD_WORDS * (number as usize);
+    while at < sizes::OBJECT_TABLE_WORDS {
+        clear = clear & (objects[at] == 0);
         at += 1;
     }
     clear
@@ -211,7 +225,7 @@ fn pds_at(objects: &[u32], number: u32) -> u32
     0
 }
 
-// How many PDs there are, if each keeps its rule.
+// How many PDs there are, if each keeps its rule and so do used records and free ones: from the first free one on all words are 0.
 pub fn pds_in_turn(objects: &[u32]) -> CountedPds
     requires { ⌜ length (now objects) ≡ objectTableWords ⌝ }
     ensures { λ r. ⌜ r ≡ countedPds (recordsIn (now (objects .entry))) ⌝ }
@@ -219,6 +233,12 @@ pub fn pds_in_turn(objects: &[u32]) -> CountedPds
     let mut before: u32 = 0;
     let mut at: u32 = 0;
     while at < sizes::RECORDS {
+        if kind_of(objects, at) == objects::FREE {
+            if !rest_is_clear(objects, at) {
+                return CountedPds::OutOfTurn;
+            }
+            return CountedPds::InTurn(before);
+        }
         if !pd_keeps(objects, at, before) {
             return CountedPds::OutOfTurn;
         }
@@ -246,9 +266,6 @@ fn record_keeps(objects: &[u32], number: u32, pds: u32) -> bool
     requires { ⌜ Numbered (now objects) pds × (number < records) ⌝ }
     ensures { λ r. ⌜ r ≡ recordKeeps (recordsIn (now (objects .entry))) number ⌝ }
 {
-    if kind_of(objects, number) == objects::FREE {
-        return (boot::ROOT_SC < number) & is_clear_from(objects, number, objects::KIND);
-    }
     if kind_of(objects, number) == objects::SM {
         return semaphore_keeps(objects, number);
     }
@@ -262,13 +279,16 @@ fn record_keeps(objects: &[u32], number: u32, pds: u32) -> bool
         & pt_keeps(objects, number)
 }
 
-// Whether each record keeps the rules other than that of PDs.
+// Whether each record keeps the rules other than that of PDs. Used records come first, so from the first free one on all are free.
 pub fn records_keep(objects: &[u32], pds: u32) -> bool
     requires { ⌜ Numbered (now objects) pds ⌝ }
     ensures { λ r. ⌜ r ≡ allBelow records (recordKeeps (recordsIn (now (objects .entry)))) ⌝ }
 {
     let mut at: u32 = 0;
     while at < sizes::RECORDS {
+        if kind_of(objects, at) == objects::FREE {
+            return boot::ROOT_SC < at;
+        }
         if !record_keeps(objects, at, pds) {
             return false;
         }

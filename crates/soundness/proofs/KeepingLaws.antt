@@ -10,7 +10,7 @@ use borrow.Author.Tests.{eqb-true}
 use Rattle.words.specs.Sizes.{stride, places, records}
 use Rattle.interface.specs.Basics.{allBelow}
 use Rattle.interface.specs.Places.{Cap, State, Tables, nothing, placeTableWords, objectTableWords, sized, shown}
-use Rattle.interface.specs.Damage.{fixed-place, pdsBelow, pd-rule, soundState, sound}
+use Rattle.interface.specs.Damage.{fixed-place, used-first, pdsBelow, pd-rule, soundState, sound}
 use Rattle.interface.proofs.Basics.BoolLaws.{cases, and-left, and-right, both, same-test, not-both}
 use Rattle.interface.proofs.Basics.BelowLaws.{all-below-at, all-below}
 use Rattle.interface.proofs.Sound.Soundness.{OfRecords, OfPlaces, sound-facts, facts-sound}
@@ -78,11 +78,11 @@ module _ (place-table object-table : List ℕ) (answer : Bool) (asked : answer �
   pub objects-long : length object-table ≡ objectTableWords
   objects-long = eqb-true (length object-table) objectTableWords (and-right places-right objects-right both-right)
 
-  -- and PDs that keep their rule and have been counted
+  -- and used records that come first, and PDs that keep their rule and have been counted
   pub numbered-so : {pds : ℕ} (found : CountedPds) → found ≡ countedPds (recordsIn object-table) → found ≡ InTurn pds → Numbered object-table pds
   numbered-so {pds} found is-found in-turn =
       let kept = turns-kept (recordsIn object-table) pds (sym is-found ∙ in-turn) in
-      record { long = objects-long; in-turn = kept .0; counted = kept .1 }
+      record { long = objects-long; used = kept .0; in-turn = kept .1; counted = kept .2 }
 
 -- and other records that keep theirs
 pub kept-so : {table : List ℕ} {pds : ℕ} → Numbered table pds → (kept : Bool) → kept ≡ allBelow records (recordKeeps (recordsIn table)) → not kept ≡ false →
@@ -99,12 +99,15 @@ module _ (tables : Tables) where
   parts h = sound-parts (shown tables) (and-right (sized tables) (soundState (shown tables)) h)
 
   pub pds-broken : (found : CountedPds) → found ≡ countedPds (recordsIn (tables .objects)) → found ≡ OutOfTurn → false ≡ sound tables
-  unfolding pdsBelow pd-rule
+  unfolding used-first pdsBelow pd-rule
   pds-broken found is-found out =
+      let s = recordsIn (tables .objects) in
       not-sound
       (λ h.
-      not-both (allBelow records (pd-rule (recordsIn (tables .objects)))) (all-below records (pd-rule (recordsIn (tables .objects))) (parts h .pds))
-      (turns-broken (recordsIn (tables .objects)) (sym is-found ∙ out)))
+      let used = all-below records (used-first s) (λ r l. record-parts (shown tables) r (parts h .others r l) .0 .3) in
+      let kept = all-below records (pd-rule s) (parts h .pds) in
+      not-both (allBelow records (used-first s) && allBelow records (pd-rule s)) (both (allBelow records (used-first s)) (allBelow records (pd-rule s)) used kept)
+      (turns-broken s (sym is-found ∙ out)))
 
   module _ (answer : Bool) where
     pub sizes-broken : answer ≡ sized tables → not answer ≡ true → false ≡ sound tables

@@ -1,7 +1,6 @@
--- A free record and a semaphore are tested at once; of any other the tests are those of the rules, and a domain has a PD where it is one of as many numbers as there are PDs.
+-- A semaphore is tested at once; of any other record the tests are those of the rules, and a domain has a PD where it is one of as many numbers as there are PDs.
 use Rattle.record_rules.specs.RecordKeeping.{recordKeeps}
 use Rattle.record_rules.proofs.PdLaws.{home-counted}
-use Rattle.record_rules.proofs.RecordTests.{free-keeps}
 use borrow.Author.Needs.{needs}
 use Rattle.record_rules.proofs.record_keeps.Statement.{statement}
 use Rattle.record_rules.proofs.record_keeps.Tie as tie
@@ -9,20 +8,11 @@ use Rattle.record_rules.proofs.record_keeps.Tie as tie
 kind-of-requires : tie.Need-kind-of-requires
 kind-of-requires c κs = search needs
 
-is-clear-from-requires : tie.Need-is-clear-from-requires
-is-clear-from-requires c κs = search needs
-
-returns : tie.Need-returns
-returns c = free-keeps _ _ _ (c .before .before .kind-of .ensures) (c .before .if1 .taken) _ (c .is-clear-from .ensures)
-
-kind-of-requires-2 : tie.Need-kind-of-requires-2
-kind-of-requires-2 c κs = search needs
-
 semaphore-keeps-requires : tie.Need-semaphore-keeps-requires
 semaphore-keeps-requires c κs = search needs
 
-returns-2 : tie.Need-returns-2
-returns-2 c = search needs
+returns : tie.Need-returns
+returns c = search needs
 
 word-of-requires : tie.Need-word-of-requires
 word-of-requires c κs = search needs
@@ -48,9 +38,9 @@ sc-keeps-requires c κs = search needs
 pt-keeps-requires : tie.Need-pt-keeps-requires
 pt-keeps-requires c κs = search needs
 
-returns-3 : tie.Need-returns-3
+returns-2 : tie.Need-returns-2
 unfolding recordKeeps
-returns-3 c =
+returns-2 c =
     let first = c .before .before .before in
     rw (
       first .before .before .before .fixed-keeps .ensures,
@@ -67,11 +57,8 @@ record-keeps-spec =
     tie.close
     (tie.spec
     kind-of-requires
-    is-clear-from-requires
-    returns
-    kind-of-requires-2
     semaphore-keeps-requires
-    returns-2
+    returns
     word-of-requires
     fixed-keeps-requires
     interrupt-keeps-requires
@@ -80,4 +67,4 @@ record-keeps-spec =
     ec-keeps-requires
     sc-keeps-requires
     pt-keeps-requires
-    returns-3)
+    returns-2)

@@ -1,4 +1,4 @@
--- The loop's invariant: each record passed keeps the rules. The measure is how many records are left.
+-- The first free record decides all that follow. The loop's invariant: each record passed keeps the rules. The measure is how many records are left.
 use Prim.Native.Nat.{_-_, _≤_}
 use mathlib.Core.Path.{_≡_}
 use mathlib.Core.Bool.{true}
@@ -7,6 +7,7 @@ use Rattle.words.specs.Sizes.{records}
 use Rattle.interface.specs.Basics.{allBelow}
 use Rattle.record_rules.specs.RecordKeeping.{recordsIn, recordKeeps}
 use Rattle.record_rules.proofs.LoopLaws.{all-below-none, all-below-more, all-below-done, all-below-broken}
+use Rattle.record_rules.proofs.RestLaws.{free-decides}
 use Rattle.record_rules.proofs.records_keep.Statement.{statement}
 use Rattle.record_rules.proofs.records_keep.Tie as tie
 
@@ -19,11 +20,17 @@ abbrev μ-loop : tie.MeasureT-loop
 loop-holds : tie.Need-loop-holds Inv-loop μ-loop
 loop-holds c = search (all-below-none, needs)
 
+kind-of-requires : tie.Need-kind-of-requires Inv-loop μ-loop
+kind-of-requires c κs = search needs
+
+returns : tie.Need-returns Inv-loop μ-loop
+returns c = search (free-decides, needs)
+
 record-keeps-requires : tie.Need-record-keeps-requires Inv-loop μ-loop
 record-keeps-requires c κs = search needs
 
-returns : tie.Need-returns Inv-loop μ-loop
-returns c = search (all-below-broken, needs)
+returns-2 : tie.Need-returns-2 Inv-loop μ-loop
+returns-2 c = search (all-below-broken, needs)
 
 add-at : tie.Need-add-at Inv-loop μ-loop
 add-at c = search needs
@@ -34,8 +41,8 @@ loop-less c = search needs
 loop-again : tie.Need-loop-again Inv-loop μ-loop
 loop-again c = search (all-below-more, needs)
 
-returns-2 : tie.Need-returns-2 Inv-loop μ-loop
-returns-2 c = search (all-below-done, needs)
+returns-3 : tie.Need-returns-3 Inv-loop μ-loop
+returns-3 c = search (all-below-done, needs)
 
 pub records-keep-spec : {M : Type 1} → statement M
 records-keep-spec =
@@ -44,9 +51,11 @@ records-keep-spec =
     Inv-loop
     μ-loop
     loop-holds
-    record-keeps-requires
+    kind-of-requires
     returns
+    record-keeps-requires
+    returns-2
     add-at
     loop-less
     loop-again
-    returns-2)
+    returns-3)
