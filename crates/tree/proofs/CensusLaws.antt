@@ -1,29 +1,32 @@
--- Laws of the census: what the next place adds to the descendants so far, and what each way out of a census leaves.
-use Prim.Native.Nat.{ℕ, _+_, _≤_, _<_}
+-- Laws of the census: what the next marked place adds to those so far, and what each way out of a census leaves.
+use Prim.Native.Nat.{ℕ, zero, suc, _+_, _-_, _/_, _%_, _≤_, _<_}
 use mathlib.Core.Path.{_≡_, refl, sym, ap, _∙_}
-use mathlib.Core.Bool.{Bool, true, false, not}
+use mathlib.Core.Bool.{Bool, true, false, not, _&&_, _||_, and-false, or-false}
 use mathlib.Core.List.{List, [], _∷_, _++_, append-nil}
 use native.Mathlib.Decide.{le-ind}
-use native.Mathlib.Nat.{le-refl}
+use native.Mathlib.Nat.{le-refl, add-zero}
 use native.Mathlib.Numerals.{add-one}
 use native.Mathlib.Omega.{arith}
-use lib.Dec.{leb, ltb}
+use lib.Dec.{eqb, leb, ltb}
 use lib.ListN.{length, drop, set, length-append, length-set}
 use lib.Seq.{drop-cons, append-snoc, set-append-seam}
-use borrow.Author.Tests.{ltb-true, ltb-false, lt-ltb, le-ltb, le-leb, lt-leb, not-true, not-false}
-use Rattle.words.specs.Sizes.{places}
+use borrow.Author.Tests.{eqb-true, ltb-true, ltb-false, lt-ltb, le-ltb, le-leb, lt-leb, not-true, not-false}
+use Rattle.words.specs.Sizes.{places, spaceOf}
+use Rattle.words.specs.Permissions.{permits}
 use Rattle.descriptor.specs.declared.Place.{Place}
 use Rattle.descriptor.specs.declared.FoundPlace.{FoundPlace}
 use Rattle.descriptor.specs.declared.FoundPlace.the-variants.{At, Nowhere}
 use Rattle.descriptor.specs.declared.Reply.the-variants.{Success, BadPar, BadCap, Short}
 use Rattle.descriptor.specs.Numbers.{placed}
 use Rattle.descriptor.proofs.DescriptorLaws.{placed-at, placed-inside}
-use Rattle.interface.specs.Basics.{gather}
+use Rattle.interface.specs.Basics.{gather, word}
 use Rattle.interface.specs.Places.{Cap, live, capAt}
 use Rattle.interface.specs.Effects.{below}
 use Rattle.interface.specs.Census.{descendants, counted}
-use Rattle.interface.proofs.Basics.BoolLaws.{cases}
-use Rattle.tree.specs.Walks.{placesOnly}
+use Rattle.interface.proofs.Basics.BoolLaws.{cases, and-left, and-right}
+use Rattle.interface.proofs.Basics.GatherLaws.{gather-same}
+use Rattle.tree.specs.Walks.{InSpace, cutAt, wordBits, markOf, markAt, markedPlaces, Marked, NextMarked, placesOnly}
+use Rattle.tree.proofs.MarkLaws.{word-space, mark-word, no-bit}
 
 -- what the next number adds to those that a test holds of, and that they are no fewer further on
 module _ (n : ℕ) (test : ℕ → Bool) where
@@ -41,83 +44,146 @@ module _ (n : ℕ) (test : ℕ → Bool) where
       le-ind (λ (k : ℕ). length (gather n test) ≤ length (gather k test)) (le-refl (length (gather n test)))
       (λ k _ ih. simp length-append (omega arith)) m l
 
+-- numbers that a test does not hold of add nothing
+gather-past : (n more : ℕ) (test : ℕ → Bool) → ((p : ℕ) → n ≤ p → p < n + more → test p ≡ false) → gather (n + more) test ≡ gather n test
+gather-past n zero test none = rw (add-zero n)
+gather-past n (suc more) test none =
+    let next : n + suc more ≡ n + more + 1 = omega arith in
+    rw next (gather-none (n + more) test (none (n + more) (omega arith) (omega arith)) ∙ gather-past n more test (λ p low high. none p low (omega arith)))
+
 -- one more number stored behind those at the start of a list
 stored-next : (found list : List ℕ) (n : ℕ) → length found < length list →
     set (found ++ drop (length found) list) (length found) n ≡ found ++ (n ∷ []) ++ drop (length (found ++ (n ∷ []))) list
 stored-next found list n l =
     rw (drop-cons list (length found) 0 l, set-append-seam found _ _ n, append-snoc found n _, length-append found (n ∷ []), add-one (length found))
 
--- the descendants of a place that are below a number
-abbrev pub descendantsBelow : (ℕ → Cap) → ℕ → ℕ → List ℕ
-descendantsBelow caps place number = gather number (below caps place 1)
+-- what was read for a place's mark
+module _ (space : ℕ) (marks : List ℕ) {number at place-space mark value : ℕ} {set : Bool} (is-at : at ≡ number) (is-space : place-space ≡ spaceOf at) (is-mark : mark ≡ markOf at)
+    (is-word : value ≡ word marks (mark / wordBits)) (is-set : set ≡ permits (mark % wordBits) value) where
+  pub mark-read : {answer : Bool} → (eqb place-space space && set) ≡ answer → markAt space marks number ≡ answer
+  mark-read tested = rw (is-set, is-word, is-mark, is-space, is-at) at tested
 
--- what the place of the next number adds to them, by the answer of the walk from there
-module _ (caps : ℕ → Cap) (place number : ℕ) {at : ℕ} {answer : Bool} (is-at : at ≡ number) (told : answer ≡ below caps place 1 at) where
-  descendants-more : answer ≡ true → descendantsBelow caps place (number + 1) ≡ descendantsBelow caps place number ++ (number ∷ [])
-  descendants-more t = gather-more number (below caps place 1) (rw is-at at (sym told ∙ t))
+  -- a word of another space and one without a mark have no marked place
+  pub word-unmarked : (eqb (number % wordBits) 0 && (not (eqb place-space space) || eqb value 0)) ≡ true →
+      (number % wordBits ≡ 0) × ((p : ℕ) → number ≤ p → p < number + wordBits → markAt space marks p ≡ false)
+  word-unmarked tested =
+      let whole = eqb-true (number % wordBits) 0 (and-left (eqb (number % wordBits) 0) (not (eqb place-space space) || eqb value 0) tested) in (
+        whole,
+        λ p low high.
+            let blank = and-right (eqb (number % wordBits) 0) (not (eqb place-space space) || eqb value 0) tested in
+            let i = p - number in
+            let there : p ≡ number + i = omega arith in
+            let same-space : spaceOf p ≡ spaceOf number = rw there (word-space number i whole (omega arith)) in
+            let same-word : markOf p / wordBits ≡ markOf number / wordBits = rw there (mark-word number whole i (omega arith)) in
+            cases (eqb (spaceOf number) space)
+            (λ (t : eqb (spaceOf number) space ≡ true).
+            let none : eqb (word marks (markOf number / wordBits)) 0 ≡ true = rw (is-word, is-mark, is-space, is-at, t) at blank in
+            rw (same-word, eqb-true (word marks (markOf number / wordBits)) 0 none, no-bit (markOf p % wordBits)) (and-false (eqb (spaceOf p) space)))
+            (λ (f : eqb (spaceOf number) space ≡ false). rw (same-space, f)),
+      )
 
-  descendants-same : answer ≡ false → descendantsBelow caps place (number + 1) ≡ descendantsBelow caps place number
-  descendants-same f = gather-none number (below caps place 1) (rw is-at at (sym told ∙ f))
+-- the marked places below a number
+abbrev pub markedBelow : ℕ → List ℕ → ℕ → List ℕ
+markedBelow space marks number = gather number (markAt space marks)
 
-  pub count-more : {count : ℕ} → count ≡ length (descendantsBelow caps place number) → answer ≡ true →
-      count + 1 ≡ length (descendantsBelow caps place (number + 1))
-  count-more so-far t = rw (descendants-more t, length-append (descendantsBelow caps place number) (number ∷ []), so-far)
+-- the way to the next marked place
+module _ (space : ℕ) (marks : List ℕ) (from : ℕ) where
+  abbrev pub Unmarked : ℕ → Type 0
+  Unmarked number = (p : ℕ) → from ≤ p → p < number → markAt space marks p ≡ false
 
-  pub count-same : {count : ℕ} → count ≡ length (descendantsBelow caps place number) → answer ≡ false →
-      count ≡ length (descendantsBelow caps place (number + 1))
-  count-same so-far f = rw (descendants-same f) so-far
+  pub unmarked-none : Unmarked from
+  unmarked-none p low high = absurd (omega arith)
 
--- past the last place all descendants are counted
-pub count-all : (caps : ℕ → Cap) (place number : ℕ) {count : ℕ} → count ≡ length (descendantsBelow caps place number) → number ≡ places →
-    count ≡ length (descendants caps place)
-unfolding descendants
-count-all caps place number so-far all = rw all at so-far
+  pub unmarked-further : (number next : ℕ) → Unmarked number → ((p : ℕ) → number ≤ p → p < next → markAt space marks p ≡ false) → Unmarked next
+  unmarked-further number next so-far more p low high =
+      cases (ltb p number) (λ (t : ltb p number ≡ true). so-far p low (ltb-true p number t))
+      (λ (f : ltb p number ≡ false). more p (ltb-false p number f) high)
 
--- a list that begins with the descendants of a place that are below a number, and otherwise is as it was
-pub record Filled (caps : ℕ → Cap) (place number count : ℕ) (before list : List ℕ) : Type 0 where
-  pub counted : count ≡ length (descendantsBelow caps place number)
+  pub unmarked-one : (number : ℕ) → Unmarked number → markAt space marks number ≡ false → Unmarked (number + 1)
+  unmarked-one number so-far none =
+      unmarked-further number (number + 1) so-far (λ p low high. let here : p ≡ number = omega arith in rw here none)
+
+-- what a marked place adds to those below it, up to the next
+module _ {space : ℕ} {marks : List ℕ} {from next : ℕ} (found : NextMarked space marks from next) where
+  marked-same : markedBelow space marks next ≡ markedBelow space marks from
+  marked-same =
+      let later = found .later in
+      let there : next ≡ from + (next - from) = omega arith in
+      rw there (gather-past from (next - from) (markAt space marks) (λ p low high. found .unmarked p low (omega arith)))
+
+  pub count-first : from ≡ 0 → 0 ≡ length (markedBelow space marks next)
+  unfolding gather
+  count-first first = rw (marked-same, first)
+
+module _ {space : ℕ} {marks : List ℕ} (number : ℕ) {next : ℕ} (here : markAt space marks number ≡ true) (found : NextMarked space marks (number + 1) next) where
+  marked-more : markedBelow space marks next ≡ markedBelow space marks number ++ (number ∷ [])
+  marked-more = marked-same found ∙ gather-more number (markAt space marks) here
+
+  pub count-more : {count : ℕ} → count ≡ length (markedBelow space marks number) → count + 1 ≡ length (markedBelow space marks next)
+  count-more so-far = rw (marked-more, length-append (markedBelow space marks number) (number ∷ []), so-far)
+
+-- past the last place all are counted
+pub count-all : (space : ℕ) (marks : List ℕ) (number : ℕ) {count : ℕ} → count ≡ length (markedBelow space marks number) → number ≡ places →
+    count ≡ length (markedPlaces space marks)
+count-all space marks number so-far all = rw all at so-far
+
+-- a list that begins with the marked places that are below a number, and otherwise is as it was
+pub record Filled (space : ℕ) (marks : List ℕ) (number count : ℕ) (before list : List ℕ) : Type 0 where
+  pub counted : count ≡ length (markedBelow space marks number)
   pub as-long : length list ≡ length before
-  pub shows : list ≡ descendantsBelow caps place number ++ drop count before
+  pub shows : list ≡ markedBelow space marks number ++ drop count before
 
-pub filled-none : (caps : ℕ → Cap) (place : ℕ) (list : List ℕ) → Filled caps place 0 0 list list
+pub filled-none : {space : ℕ} {marks : List ℕ} {next : ℕ} (list : List ℕ) → NextMarked space marks 0 next → Filled space marks next 0 list list
 unfolding gather
-filled-none caps place list = record { counted = refl; as-long = refl; shows = refl }
+filled-none list found = record { counted = count-first found refl; as-long = refl; shows = rw (marked-same found) }
 
-module _ {caps : ℕ → Cap} {place number count : ℕ} {before list : List ℕ} (so-far : Filled caps place number count before list) where
-  module _ {at : ℕ} {answer : Bool} (is-at : at ≡ number) (told : answer ≡ below caps place 1 at) where
-    -- a list with room for the descendants has room for the next of them
-    pub filled-room : number < places → length (descendants caps place) ≤ length before → answer ≡ true → count < length list
-    unfolding descendants
-    filled-room l fits t =
-        omega (
-          arith,
-          so-far .as-long,
-          gather-longer (number + 1) (below caps place 1) places (omega arith),
-          count-more caps place number is-at told (so-far .counted) t,
-        )
+module _ {space : ℕ} {marks : List ℕ} {number count : ℕ} {before list : List ℕ} (so-far : Filled space marks number count before list) where
+  -- a list with room for the marked places has room for the next of them
+  pub filled-room : number < places → length (markedPlaces space marks) ≤ length before → markAt space marks number ≡ true → count < length list
+  filled-room l fits here =
+      let one-more : length (markedBelow space marks (number + 1)) ≡ length (markedBelow space marks number) + 1 =
+      rw (gather-more number (markAt space marks) here, length-append (markedBelow space marks number) (number ∷ [])) in
+      omega (
+        arith,
+        so-far .as-long,
+        so-far .counted,
+        gather-longer (number + 1) (markAt space marks) places (omega arith),
+        one-more,
+      )
 
-    pub filled-more : count < length list → answer ≡ true → Filled caps place (number + 1) (count + 1) before (set list count number)
-    filled-more l t =
-        let found = descendantsBelow caps place number in
-        let counted = so-far .counted in
-        let next = count-more caps place number is-at told counted t in
-        record {
-          counted = next;
-          as-long = length-set list count number ∙ so-far .as-long;
-          shows =
-              rw (next, descendants-more caps place number is-at told t, so-far .shows, counted)
-              (stored-next found before number (rw (← counted, ← so-far .as-long) l));
-        }
+  pub filled-more : {next : ℕ} → count < length list → markAt space marks number ≡ true → NextMarked space marks (number + 1) next →
+      Filled space marks next (count + 1) before (set list count number)
+  filled-more l here found =
+      let counted = so-far .counted in
+      let next-count = count-more number here found counted in
+      record {
+        counted = next-count;
+        as-long = length-set list count number ∙ so-far .as-long;
+        shows =
+            rw (next-count, marked-more number here found, so-far .shows, counted)
+            (stored-next (markedBelow space marks number) before number (rw (← counted, ← so-far .as-long) l));
+      }
 
-    pub filled-same : answer ≡ false → Filled caps place (number + 1) count before list
-    filled-same f =
-        let same = descendants-same caps place number is-at told f in
-        record { counted = rw same (so-far .counted); as-long = so-far .as-long; shows = rw same (so-far .shows) }
-
-  -- past the last place the list shows all descendants
-  pub filled-all : number ≡ places → list ≡ descendants caps place ++ drop (length (descendants caps place)) before
-  unfolding descendants
+  -- past the last place the list shows all
+  pub filled-all : number ≡ places → list ≡ markedPlaces space marks ++ drop (length (markedPlaces space marks)) before
   filled-all all = rw (so-far .counted, all) at (so-far .shows)
+
+-- the marked places are the descendants of the place that the marks were found for
+pub marked-descendants : (caps : ℕ → Cap) (place : ℕ) {space : ℕ} {marks : List ℕ} → space ≡ spaceOf place →
+    Marked (cutAt caps place 1 false) places (spaceOf place) marks → markedPlaces space marks ≡ descendants caps place
+unfolding descendants
+marked-descendants caps place {space} {marks} is-space are-marks =
+    rw is-space
+    (gather-same places (markAt (spaceOf place) marks) (below caps place 1) (λ p l. are-marks .told p l ∙ or-false (below caps place 1 p)))
+
+-- a place alone is of one space
+pub alone : (place : ℕ) → place < places → InSpace place 1
+alone place l =
+    record {
+      first-place = l;
+      ends = omega arith;
+      one-space = λ p low high. let here : p ≡ place = omega arith in ap spaceOf here;
+    }
 
 -- a word that names a place is its number, and one that names none lies past the places
 module _ (place : ℕ) {found : FoundPlace} (is-found : found ≡ placed place) where

@@ -6,7 +6,7 @@ use lib.Dec.{eqb, ltb}
 use mathlib.Core.List.{List, [], _∷_}
 use Rattle.words.specs.Sizes.{domains, object, selectors, places, placeOf, domainOf, spaceOf, selectorOf}
 use Rattle.words.specs.Permissions.{permits}
-use Rattle.interface.specs.Basics.{if_then_else_, word, put, allBelow}
+use Rattle.interface.specs.Basics.{if_then_else_, word, put, allBelow, gather}
 use Rattle.interface.specs.Places.{Cap, State, capAt, capTable}
 use Rattle.interface.specs.Effects.{among, below, stripped}
 use Rattle.places.specs.Table.{Sized}
@@ -79,6 +79,17 @@ markAt space marks place = eqb (spaceOf place) space && bitAt marks (markOf plac
 -- marks of a space that are a test's answers for the places before one
 pub record Marked (test : ℕ → Bool) (number space : ℕ) (marks : List ℕ) : Type 0 where
   pub told : (place : ℕ) → place < number → markAt space marks place ≡ test place
+
+-- the places that have their marks, rising
+abbrev pub markedPlaces : ℕ → List ℕ → List ℕ
+markedPlaces space marks = gather places (markAt space marks)
+
+-- the first place from one on that has its mark, or the number of places where none has
+pub record NextMarked (space : ℕ) (marks : List ℕ) (from found : ℕ) : Type 0 where
+  pub later : from ≤ found
+  pub ends : found ≤ places
+  pub unmarked : (place : ℕ) → from ≤ place → place < found → markAt space marks place ≡ false
+  pub marked : found < places → markAt space marks found ≡ true
 
 -- a table on which a revocation is being marked: the marks so far tell of the places before one
 pub record Marking (table : List ℕ) (first size : ℕ) (self : Bool) (walked space : ℕ) (marks : List ℕ) : Type 0 where

@@ -7,9 +7,9 @@ ghost use Rattle.words.specs.Sizes.{spaces, places, spaceOf};
 ghost use Rattle.interface.specs.Basics.{put};
 ghost use Rattle.interface.specs.Places.{capAt, capTable};
 ghost use Rattle.interface.specs.Effects.{ancestors, below, stripped, cutCaps};
-ghost use Rattle.interface.specs.Census.{descendants, counted};
+ghost use Rattle.interface.specs.Census.{counted};
 ghost use Rattle.places.specs.Table.{Sized};
-ghost use Rattle.tree.specs.Walks.{Linked, InSpace, Stepped, firstAmong, cutAt, wordBits, packed, allMarks, markOf, bitAt, Marked, Marking, meets, parentlessFrom, placesOnly};
+ghost use Rattle.tree.specs.Walks.{Linked, InSpace, Stepped, firstAmong, cutAt, wordBits, packed, allMarks, markOf, bitAt, Marked, Marking, NextMarked, markedPlaces, meets, parentlessFrom, placesOnly};
 use descriptor::Cap;
 use descriptor::FoundPlace;
 use descriptor::Place;
@@ -246,36 +246,54 @@ fn strip(table: &mut [u32], place: Place, mask: u32)
     }
 }
 
-// The number of strict descendants of a place.
-fn count_below(table: &[u32], place: Place) -> u32
-    requires { ⌜ Sized (now table) × Linked (capAt (now table)) × (place .0 < places) ⌝ }
-    ensures { λ r. ⌜ r ≡ length (descendants (capAt (now (table .entry))) (place .0)) ⌝ }
+// The first place from a number on that is marked, of the space whose marks these are, or the number of places where none is. Passes over the words of other spaces and those
+// without a mark.
+fn next_marked(marked: &[u32; MARK_WORDS], space: u32, from: u32) -> u32
+    requires { ⌜ from ≤ places ⌝ }
+    ensures { λ r. ⌜ NextMarked space (now (marked .entry)) from r ⌝ }
+{
+    let mut number = from;
+    while number < sizes::PLACES {
+        let place = Place::counted(number);
+        let known = place.space() == space;
+        let mark = mark_of(place);
+        let word = marked[(mark / WORD_BITS) as usize];
+        if known & permissions::has(mark % WORD_BITS, word) {
+            return number;
+        }
+        if (number % WORD_BITS == 0) & (!known | (word == 0)) {
+            number += WORD_BITS;
+        } else {
+            number += 1;
+        }
+    }
+    number
+}
+
+// The number of the marked places.
+fn count_marked(marked: &[u32; MARK_WORDS], space: u32) -> u32
+    ensures { λ r. ⌜ r ≡ length (markedPlaces space (now (marked .entry))) ⌝ }
 {
     let mut count = 0u32;
-    let mut number = 0u32;
+    let mut number = next_marked(marked, space, 0);
     while number < sizes::PLACES {
-        if is_below(table, Place::counted(number), place, 1) {
-            count += 1;
-        }
-        number += 1;
+        count += 1;
+        number = next_marked(marked, space, number + 1);
     }
     count
 }
 
-// Puts the strict descendants of a place at the start of a list that is long enough, rising.
-fn fill_below(table: &[u32], place: Place, list: &mut [u32])
-    requires { ⌜ Sized (now table) × Linked (capAt (now table)) × (place .0 < places) × (length (descendants (capAt (now table)) (place .0)) ≤ length (now list)) ⌝ }
-    ensures { λ r. ⌜ now (list .exit) ≡ descendants (capAt (now (table .entry))) (place .0) ++ drop (length (descendants (capAt (now (table .entry))) (place .0))) (now (list .entry)) ⌝ }
+// Puts the marked places at the start of a list that is long enough, rising.
+fn list_marked(marked: &[u32; MARK_WORDS], space: u32, list: &mut [u32])
+    requires { ⌜ length (markedPlaces space (now marked)) ≤ length (now list) ⌝ }
+    ensures { λ r. ⌜ now (list .exit) ≡ markedPlaces space (now (marked .entry)) ++ drop (length (markedPlaces space (now (marked .entry)))) (now (list .entry)) ⌝ }
 {
     let mut count: usize = 0;
-    let mut number = 0u32;
+    let mut number = next_marked(marked, space, 0);
     while number < sizes::PLACES {
-        let below = Place::counted(number);
-        if is_below(table, below, place, 1) {
-            list[count] = below.number();
-            count += 1;
-        }
-        number += 1;
+        list[count] = number;
+        count += 1;
+        number = next_marked(marked, space, number + 1);
     }
 }
 
@@ -291,10 +309,12 @@ pub fn census(place: u32, table: &[u32], list: &mut [u32]) -> Reply
     if !places::is_live(cap) {
         return Reply::BadCap;
     }
-    let count = count_below(table, at);
+    let space = at.space();
+    let marked = marks(table, at, 1, false);
+    let count = count_marked(&marked, space);
     if list.len() < (count as usize) {
         return Reply::Short(count);
     }
-    fill_below(table, at, list);
+    list_marked(&marked, space, list);
     Reply::Success(count)
 }

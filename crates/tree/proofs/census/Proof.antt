@@ -1,7 +1,9 @@
 -- Each way out is one of the definition's.
+use mathlib.Core.Path.{ap, _∙_}
 use native.Mathlib.Omega.{arith}
+use lib.ListN.{length}
 use borrow.Author.Needs.{needs}
-use Rattle.tree.proofs.CensusLaws.{counts-beyond, named-small, counts-null, counts-short, counts-all}
+use Rattle.tree.proofs.CensusLaws.{alone, marked-descendants, counts-beyond, named-small, counts-null, counts-short, counts-all}
 use Rattle.tree.proofs.census.Statement.{statement}
 use Rattle.tree.proofs.census.Tie as tie
 
@@ -31,43 +33,47 @@ returns-2 c =
     counts-null _ _ _ (loaded .before .before .before .before .found .ensures) (loaded .before .before .at .given .1) (loaded .load .ensures)
     (c .before .is-live .ensures) (c .if1 .taken)
 
-count-below-requires : tie.Need-count-below-requires
-count-below-requires c κs =
-    let named = c .before .before .before .before in
+space-requires : tie.Need-space-requires
+space-requires c κs = search needs
+
+marks-requires : tie.Need-marks-requires
+marks-requires c κs =
+    let named = c .before .before .before .before .before in
     let start = named .before .before .before .before .before in
-    (start .pre .0, start .pre .1, named-small _ (named .before .before .found .ensures) _ (named .at .given .1))
+    (start .pre .0, start .pre .1, alone _ (named-small _ (named .before .before .found .ensures) _ (named .at .given .1)))
+
+count-marked-requires : tie.Need-count-marked-requires
+count-marked-requires c κs = search needs
 
 cast-if2 : tie.Need-cast-if2
 cast-if2 c = search needs
 
 returns-3 : tie.Need-returns-3
 returns-3 c =
-    let loaded = c .before .before .before .before in
+    let counted = c .before in
+    let asked = counted .before .before in
+    let loaded = asked .before .before .before .before in
+    let descend = marked-descendants _ _ (asked .before .space .ensures) (asked .marks .ensures) in
     counts-short _ _ _ (loaded .before .before .before .before .found .ensures) (loaded .before .before .at .given .1) (loaded .load .ensures)
-    (c .before .before .before .is-live .ensures) (c .before .before .if1 .left) (c .before .count-below .ensures) (c .if2 .taken)
+    (asked .before .before .before .is-live .ensures) (asked .before .before .if1 .left) (counted .count-marked .ensures ∙ ap length descend) (c .if2 .taken)
 
-fill-below-requires : tie.Need-fill-below-requires
-fill-below-requires c κs =
-    let counted = c .before .before in
-    let named = counted .before .before .before .before .before in
-    let start = named .before .before .before .before .before in (
-      start .pre .0,
-      start .pre .1,
-      named-small _ (named .before .before .found .ensures) _ (named .at .given .1),
-      omega (arith, counted .count-below .ensures),
-    )
+list-marked-requires : tie.Need-list-marked-requires
+list-marked-requires c κs = omega (arith, c .before .before .before .count-marked .ensures)
 
 same-length : tie.Need-same-length
 same-length c = search needs
 
 returns-4 : tie.Need-returns-4
 returns-4 c =
-    let filled = c .before .before in
-    let counted = filled .before .before .before in
-    let loaded = counted .before .before .before in
+    let listed = c .before .before in
+    let fits = listed .before .before .before in
+    let counted = fits .before in
+    let asked = counted .before .before in
+    let loaded = asked .before .before .before .before in
+    let descend = marked-descendants _ _ (asked .before .space .ensures) (asked .marks .ensures) in
     counts-all _ _ _ (loaded .before .before .before .before .found .ensures) (loaded .before .before .at .given .1) (loaded .load .ensures)
-    (counted .before .before .is-live .ensures) (counted .before .if1 .left) (counted .count-below .ensures) (filled .before .before .if2 .left)
-    (filled .fill-below .ensures)
+    (asked .before .before .before .is-live .ensures) (asked .before .before .if1 .left) (counted .count-marked .ensures ∙ ap length descend) (fits .if2 .left)
+    (rw descend at (listed .list-marked .ensures))
 
 pub census-spec : {M : Type 1} → statement M
 census-spec =
@@ -80,9 +86,11 @@ census-spec =
     load-requires
     is-live-requires
     returns-2
-    count-below-requires
+    space-requires
+    marks-requires
+    count-marked-requires
     cast-if2
     returns-3
-    fill-below-requires
+    list-marked-requires
     same-length
     returns-4)
