@@ -13,11 +13,12 @@ use Rattle.interface.specs.Basics.{if_then_else_, word, allBelow}
 use Rattle.interface.specs.Places.{State, free, PD, EC, SC, PT, SM, kindOf, namedWords, kindWord, countWord, domainWord, cpuWord, eventBaseWord, ecWord, priorityWord, quantumWord}
 use Rattle.interface.specs.Boot.{root, cpus, rootPd, rootEc, rootSc, noEc, rootPriority, rootQuantum, bootRecord}
 use Rattle.interface.specs.Damage.{fixed-record, interrupt-rule, unnamed-rule, used-first, pdsBelow, pd-rule, hasPd, isEc, ec-rule, between1, greatestPriority, greatestQuantum, sc-rule, pt-rule}
-use Rattle.interface.proofs.Basics.BoolLaws.{cases, not-both, and-left, and-right, or-none-left, or-none-right, not-asked}
+use Rattle.interface.proofs.Basics.BoolLaws.{cases, same-test, not-both, and-left, and-right, each-of-four, or-none-left, or-none-right, not-asked}
 use Rattle.interface.proofs.Basics.BelowLaws.{all-below-at, all-below}
 use Rattle.objects.proofs.RecordTableLaws.{short-words}
 use Rattle.record_rules.specs.RecordKeeping.{clearFrom, hasWords, recordKeeps}
 use Rattle.record_rules.proofs.LoopLaws.{so-far-more, so-far-done}
+use Rattle.record_rules.proofs.RecordParts.{record-parts}
 use Rattle.record_rules.proofs.TailLaws.{from-zero, after-four, from-same}
 
 -- a test or another, as a choice
@@ -334,3 +335,31 @@ module _ (s : State) (r : ℕ) (known : kindOf s r ≡ SM) where
       all-true false true false = refl
       all-true false false true = refl
       all-true false false false = refl
+
+-- an idle SC keeps the rules where it is as at boot and used records come first
+pub idle-keeps : (s : State) (r : ℕ) (same : Bool) → r < cpus → used-first s r ≡ true → same ≡ fixed-record s r → same ≡ recordKeeps s r
+unfolding recordKeeps
+idle-keeps s r same l used is-same =
+    is-same ∙
+    same-test (fixed-record s r) (recordKeeps s r)
+    (λ (t : fixed-record s r ≡ true).
+    let clear = clearFrom s r 4 in
+    let kind = eqb (kindOf s r) SC in
+    let all-four = kind && eqb (s .objects r 1) noEc && eqb (s .objects r 2) 0 && eqb (s .objects r 3) 0 in
+    let words : (all-four && clear) ≡ true =
+    has-words-so s r SC noEc 0 0 (kindOf s r) (s .objects r 1) (s .objects r 2) (s .objects r 3) clear refl refl refl refl refl ∙
+    (fixed-idle s r (hasWords s r SC noEc 0 0) l refl ∙ t) in
+    let four = each-of-four kind (eqb (s .objects r 1) noEc) (eqb (s .objects r 2) 0) (eqb (s .objects r 3) 0) (and-left all-four clear words) in
+    let is-sc : kindOf s r ≡ SC = eqb-true (kindOf s r) SC (four .0) in
+    let interrupts : interrupt-rule s r ≡ true = sym (interrupt-so s r SC (sym is-sc)) ∙ rw (lt-ltb r cpus l) in
+    let unnamed : unnamed-rule s r ≡ true = sym (unnamed-so s r SC quantumWord clear (sym is-sc) refl refl) ∙ and-right all-four clear words in
+    rw (
+      t,
+      interrupts,
+      unnamed,
+      used,
+      sym (ec-not s r SC (sym is-sc) (λ f. omega arith)),
+      sym (sc-not s r SC (sym is-sc) (lt-ltb r cpus l)),
+      sym (pt-not s r SC (sym is-sc) (λ f. omega arith)),
+    ))
+    (λ (t : recordKeeps s r ≡ true). record-parts s r t .0 .0)

@@ -261,11 +261,14 @@ fn semaphore_keeps(objects: &[u32], number: u32) -> bool
         & (kind_of(objects, number - 1) != objects::FREE)
 }
 
-// Whether a record keeps the rules other than that of PDs, where there are so many PDs.
+// Whether a record keeps the rules other than that of PDs, where there are so many PDs. An idle SC keeps them where it is as at boot.
 fn record_keeps(objects: &[u32], number: u32, pds: u32) -> bool
     requires { ⌜ Numbered (now objects) pds × (number < records) ⌝ }
     ensures { λ r. ⌜ r ≡ recordKeeps (recordsIn (now (objects .entry))) number ⌝ }
 {
+    if number < objects::CPUS {
+        return fixed_keeps(objects, number);
+    }
     if kind_of(objects, number) == objects::SM {
         return semaphore_keeps(objects, number);
     }

@@ -1,9 +1,20 @@
--- A semaphore is tested at once; of any other record the tests are those of the rules, and a domain has a PD where it is one of as many numbers as there are PDs.
+-- An idle SC and a semaphore are tested at once; of any other record the tests are those of the rules, and a domain has a PD where it is one of as many numbers as there are PDs.
+use Rattle.words.specs.Sizes.{records}
+use Rattle.interface.proofs.Basics.BelowLaws.{all-below-at}
 use Rattle.record_rules.specs.RecordKeeping.{recordKeeps}
 use Rattle.record_rules.proofs.PdLaws.{home-counted}
+use Rattle.record_rules.proofs.RecordTests.{idle-keeps}
 use borrow.Author.Needs.{needs}
 use Rattle.record_rules.proofs.record_keeps.Statement.{statement}
 use Rattle.record_rules.proofs.record_keeps.Tie as tie
+
+fixed-keeps-requires : tie.Need-fixed-keeps-requires
+fixed-keeps-requires c κs = search needs
+
+returns : tie.Need-returns
+returns c =
+    let start = c .before .before .before in
+    idle-keeps _ _ _ (c .before .if1 .taken) (all-below-at records _ (start .pre .0 .used) _ (start .pre .1)) (c .fixed-keeps .ensures)
 
 kind-of-requires : tie.Need-kind-of-requires
 kind-of-requires c κs = search needs
@@ -11,14 +22,14 @@ kind-of-requires c κs = search needs
 semaphore-keeps-requires : tie.Need-semaphore-keeps-requires
 semaphore-keeps-requires c κs = search needs
 
-returns : tie.Need-returns
-returns c = search needs
+returns-2 : tie.Need-returns-2
+returns-2 c = search needs
 
 word-of-requires : tie.Need-word-of-requires
 word-of-requires c κs = search needs
 
-fixed-keeps-requires : tie.Need-fixed-keeps-requires
-fixed-keeps-requires c κs = search needs
+fixed-keeps-requires-2 : tie.Need-fixed-keeps-requires-2
+fixed-keeps-requires-2 c κs = search needs
 
 interrupt-keeps-requires : tie.Need-interrupt-keeps-requires
 interrupt-keeps-requires c κs = search needs
@@ -38,12 +49,12 @@ sc-keeps-requires c κs = search needs
 pt-keeps-requires : tie.Need-pt-keeps-requires
 pt-keeps-requires c κs = search needs
 
-returns-2 : tie.Need-returns-2
+returns-3 : tie.Need-returns-3
 unfolding recordKeeps
-returns-2 c =
+returns-3 c =
     let first = c .before .before .before in
     rw (
-      first .before .before .before .fixed-keeps .ensures,
+      first .before .before .before .fixed-keeps2 .ensures,
       first .before .before .interrupt-keeps .ensures,
       first .before .unnamed-keeps .ensures,
       first .used-first-keeps .ensures,
@@ -56,15 +67,17 @@ pub record-keeps-spec : {M : Type 1} → statement M
 record-keeps-spec =
     tie.close
     (tie.spec
+    fixed-keeps-requires
+    returns
     kind-of-requires
     semaphore-keeps-requires
-    returns
+    returns-2
     word-of-requires
-    fixed-keeps-requires
+    fixed-keeps-requires-2
     interrupt-keeps-requires
     unnamed-keeps-requires
     used-first-keeps-requires
     ec-keeps-requires
     sc-keeps-requires
     pt-keeps-requires
-    returns-2)
+    returns-3)
