@@ -1,18 +1,19 @@
 -- Laws of the census: what the next marked place adds to those so far, and what each way out of a census leaves.
-use Prim.Native.Nat.{ℕ, zero, suc, _+_, _-_, _/_, _%_, _≤_, _<_}
+use Prim.Native.Nat.{ℕ, zero, suc, _+_, _-_, _/_, _%_, _^_, _≤_, _<_}
 use mathlib.Core.Path.{_≡_, refl, sym, ap, _∙_}
-use mathlib.Core.Bool.{Bool, true, false, not, _&&_, _||_, and-false, or-false}
+use mathlib.Core.Bool.{Bool, true, false, not, _&&_, or-false}
 use mathlib.Core.List.{List, [], _∷_, _++_, append-nil}
 use native.Mathlib.Decide.{le-ind}
-use native.Mathlib.Nat.{le-refl, add-zero}
-use native.Mathlib.Numerals.{add-one}
+use native.Mathlib.Nat.{le-refl, add-zero, pow-zero, div-one, add-sub-cancel-left}
+use native.Mathlib.Numerals.{add-one, one-add}
 use native.Mathlib.Omega.{arith}
 use lib.Dec.{eqb, leb, ltb}
 use lib.ListN.{length, drop, set, length-append, length-set}
+use lib.Count.{trailingZeros, under}
+use lib.Pow.{shr-shr}
 use lib.Seq.{drop-cons, append-snoc, set-append-seam}
-use borrow.Author.Tests.{eqb-true, ltb-true, ltb-false, lt-ltb, le-ltb, le-leb, lt-leb, not-true, not-false}
+use borrow.Author.Tests.{ltb-true, ltb-false, lt-ltb, le-ltb, le-leb, lt-leb, not-true, not-false}
 use Rattle.words.specs.Sizes.{places, spaceOf}
-use Rattle.words.specs.Permissions.{permits}
 use Rattle.descriptor.specs.declared.Place.{Place}
 use Rattle.descriptor.specs.declared.FoundPlace.{FoundPlace}
 use Rattle.descriptor.specs.declared.FoundPlace.the-variants.{At, Nowhere}
@@ -26,7 +27,7 @@ use Rattle.interface.specs.Census.{descendants, counted}
 use Rattle.interface.proofs.Basics.BoolLaws.{cases, and-left, and-right}
 use Rattle.interface.proofs.Basics.GatherLaws.{gather-same}
 use Rattle.tree.specs.Walks.{InSpace, cutAt, wordBits, markOf, markAt, markedPlaces, Marked, NextMarked, placesOnly}
-use Rattle.tree.proofs.MarkLaws.{word-space, mark-word, no-bit}
+use Rattle.tree.proofs.MarkLaws.{word-space, mark-word, mark-bit}
 
 -- what the next number adds to those that a test holds of, and that they are no fewer further on
 module _ (n : ℕ) (test : ℕ → Bool) where
@@ -57,51 +58,104 @@ stored-next : (found list : List ℕ) (n : ℕ) → length found < length list �
 stored-next found list n l =
     rw (drop-cons list (length found) 0 l, set-append-seam found _ _ n, append-snoc found n _, length-append found (n ∷ []), add-one (length found))
 
--- what was read for a place's mark
-module _ (space : ℕ) (marks : List ℕ) {number at place-space mark value : ℕ} {set : Bool} (is-at : at ≡ number) (is-space : place-space ≡ spaceOf at) (is-mark : mark ≡ markOf at)
-    (is-word : value ≡ word marks (mark / wordBits)) (is-set : set ≡ permits (mark % wordBits) value) where
-  pub mark-read : {answer : Bool} → (eqb place-space space && set) ≡ answer → markAt space marks number ≡ answer
-  mark-read tested = rw (is-set, is-word, is-mark, is-space, is-at) at tested
+-- a number's bits below its lowest that is set are not set, and that one is
+zeros-below : (digits n i : ℕ) → i < trailingZeros digits n → n / 2 ^ i % 2 ≡ 0
+unfolding trailingZeros
+zeros-below zero n i l = absurd (omega arith)
+zeros-below (suc digits) n i l = go (n % 2) refl (zeros-below digits (n / 2)) i l
+  where
+    go : (r : ℕ) → n % 2 ≡ r → ((j : ℕ) → j < trailingZeros digits (n / 2) → n / 2 / 2 ^ j % 2 ≡ 0) → (j : ℕ) → j < under r (trailingZeros digits (n / 2)) → n / 2 ^ j % 2 ≡ 0
+    go zero even halves zero k = rw (pow-zero 2, div-one n) even
+    go zero even halves (suc j) k = rw (← one-add j, ← shr-shr n 1 j) (halves j (omega arith))
+    go (suc r) odd halves j k = absurd (omega arith)
 
-  -- a word of another space and one without a mark have no marked place
-  pub word-unmarked : (eqb (number % wordBits) 0 && (not (eqb place-space space) || eqb value 0)) ≡ true →
-      (number % wordBits ≡ 0) × ((p : ℕ) → number ≤ p → p < number + wordBits → markAt space marks p ≡ false)
-  word-unmarked tested =
-      let whole = eqb-true (number % wordBits) 0 (and-left (eqb (number % wordBits) 0) (not (eqb place-space space) || eqb value 0) tested) in (
-        whole,
-        λ p low high.
-            let blank = and-right (eqb (number % wordBits) 0) (not (eqb place-space space) || eqb value 0) tested in
-            let i = p - number in
-            let there : p ≡ number + i = omega arith in
-            let same-space : spaceOf p ≡ spaceOf number = rw there (word-space number i whole (omega arith)) in
-            let same-word : markOf p / wordBits ≡ markOf number / wordBits = rw there (mark-word number whole i (omega arith)) in
-            cases (eqb (spaceOf number) space)
-            (λ (t : eqb (spaceOf number) space ≡ true).
-            let none : eqb (word marks (markOf number / wordBits)) 0 ≡ true = rw (is-word, is-mark, is-space, is-at, t) at blank in
-            rw (same-word, eqb-true (word marks (markOf number / wordBits)) 0 none, no-bit (markOf p % wordBits)) (and-false (eqb (spaceOf p) space)))
-            (λ (f : eqb (spaceOf number) space ≡ false). rw (same-space, f)),
-      )
+zeros-end : (digits n : ℕ) → trailingZeros digits n < digits → n / 2 ^ trailingZeros digits n % 2 ≡ 1
+unfolding trailingZeros
+zeros-end zero n l = absurd (omega arith)
+zeros-end (suc digits) n l = go (n % 2) refl (zeros-end digits (n / 2)) l
+  where
+    go : (r : ℕ) → n % 2 ≡ r → (trailingZeros digits (n / 2) < digits → n / 2 / 2 ^ trailingZeros digits (n / 2) % 2 ≡ 1) →
+        under r (trailingZeros digits (n / 2)) < suc digits → n / 2 ^ under r (trailingZeros digits (n / 2)) % 2 ≡ 1
+    go zero even half k = rw (← one-add (trailingZeros digits (n / 2)), ← shr-shr n 1 (trailingZeros digits (n / 2))) (half (omega arith))
+    go (suc r) odd half k = rw (pow-zero 2, div-one n) (omega arith)
+
+-- the marks of a word from a place's on, by what was read for it
+module _ (space : ℕ) (marks : List ℕ) {number at place-space mark zeros : ℕ} (is-at : at ≡ number) (is-space : place-space ≡ spaceOf at) (is-mark : mark ≡ markOf at)
+    (is-zeros : zeros ≡ trailingZeros wordBits (word marks (mark / wordBits) / 2 ^ (mark % wordBits))) where
+  abbrev rest : ℕ
+  rest = word marks (markOf number / wordBits) / 2 ^ (markOf number % wordBits)
+
+  rest-zeros : zeros ≡ trailingZeros wordBits rest
+  rest-zeros = rw (is-mark, is-at) at is-zeros
+
+  mark-rest : (i : ℕ) → i < wordBits - number % wordBits → markAt space marks (number + i) ≡ (eqb place-space space && eqb (rest / 2 ^ i % 2) 1)
+  mark-rest i l =
+      let offset = number % wordBits in
+      let from = number - offset in
+      let whole : from % wordBits ≡ 0 = omega arith in
+      let here : number ≡ from + offset = omega arith in
+      let there : number + i ≡ from + (offset + i) = omega arith in
+      let there-space : spaceOf (number + i) ≡ spaceOf from = rw there (word-space from (offset + i) whole (omega arith)) in
+      let here-space : spaceOf number ≡ spaceOf from = ap spaceOf here ∙ word-space from offset whole (omega arith) in
+      let there-word : markOf (number + i) / wordBits ≡ markOf from / wordBits = rw there (mark-word from whole (offset + i) (omega arith)) in
+      let here-word : markOf number / wordBits ≡ markOf from / wordBits = ap (λ (n : ℕ). markOf n / wordBits) here ∙ mark-word from whole offset (omega arith) in
+      let there-bit : markOf (number + i) % wordBits ≡ offset + i = rw there (mark-bit from whole (offset + i) (omega arith)) in
+      let here-bit : markOf number % wordBits ≡ offset = ap (λ (n : ℕ). markOf n % wordBits) here ∙ mark-bit from whole offset (omega arith) in
+      let same-space : spaceOf (number + i) ≡ place-space = there-space ∙ sym here-space ∙ ap spaceOf (sym is-at) ∙ sym is-space in
+      let same-word : markOf (number + i) / wordBits ≡ markOf number / wordBits = there-word ∙ sym here-word in
+      rw (same-word, there-bit, here-bit, same-space)
+      (rw (add-sub-cancel-left (offset + i) 1, shr-shr (word marks (markOf number / wordBits)) offset i))
+
+  -- the marks before the lowest one set are not set
+  pub rest-unmarked : (next : ℕ) → (eqb place-space space ≡ true → next ≤ number + zeros) → next ≤ number + (wordBits - number % wordBits) →
+      (p : ℕ) → number ≤ p → p < next → markAt space marks p ≡ false
+  rest-unmarked next before inside p low high =
+      let i = p - number in
+      let there : p ≡ number + i = omega arith in
+      rw there
+      (mark-rest i (omega arith) ∙
+      cases (eqb place-space space)
+      (λ (t : eqb place-space space ≡ true).
+      let early = before t in
+      rw (t, zeros-below wordBits rest i (rw (← rest-zeros) (omega arith))))
+      (λ (f : eqb place-space space ≡ false). rw f))
+
+  -- and that one is
+  pub rest-marked : (eqb place-space space && ltb zeros (wordBits - number % wordBits)) ≡ true → markAt space marks (number + zeros) ≡ true
+  rest-marked tested =
+      let known = and-left (eqb place-space space) (ltb zeros (wordBits - number % wordBits)) tested in
+      let few = ltb-true zeros (wordBits - number % wordBits) (and-right (eqb place-space space) (ltb zeros (wordBits - number % wordBits)) tested) in
+      let fewer : trailingZeros wordBits rest < wordBits = rw (← rest-zeros) (omega arith) in
+      mark-rest zeros few ∙ rw (known, rest-zeros) (ap (λ (n : ℕ). eqb n 1) (zeros-end wordBits rest fewer))
+
+  pub rest-found : (from : ℕ) → from ≤ number → number < places → ((p : ℕ) → from ≤ p → p < number → markAt space marks p ≡ false) →
+      (eqb place-space space && ltb zeros (wordBits - number % wordBits)) ≡ true → NextMarked space marks from (number + zeros)
+  rest-found from later inside so-far tested =
+      let few = ltb-true zeros (wordBits - number % wordBits) (and-right (eqb place-space space) (ltb zeros (wordBits - number % wordBits)) tested) in
+      record {
+        later = omega arith;
+        ends = omega arith;
+        unmarked = λ p low high.
+            cases (ltb p number) (λ (t : ltb p number ≡ true). so-far p low (ltb-true p number t))
+            (λ (f : ltb p number ≡ false). rest-unmarked (number + zeros) (λ _. omega arith) (omega arith) p (ltb-false p number f) high);
+        marked = λ _. rest-marked tested;
+      }
+
+  pub rest-passed : (from : ℕ) → ((p : ℕ) → from ≤ p → p < number → markAt space marks p ≡ false) →
+      (eqb place-space space && ltb zeros (wordBits - number % wordBits)) ≡ false →
+      (p : ℕ) → from ≤ p → p < number + (wordBits - number % wordBits) → markAt space marks p ≡ false
+  rest-passed from so-far tested p low high =
+      cases (ltb p number) (λ (t : ltb p number ≡ true). so-far p low (ltb-true p number t))
+      (λ (f : ltb p number ≡ false).
+      rest-unmarked (number + (wordBits - number % wordBits))
+      (λ (known : eqb place-space space ≡ true).
+      let few = ltb-false zeros (wordBits - number % wordBits) (rw known at tested) in
+      omega arith)
+      (omega arith) p (ltb-false p number f) high)
 
 -- the marked places below a number
 abbrev pub markedBelow : ℕ → List ℕ → ℕ → List ℕ
 markedBelow space marks number = gather number (markAt space marks)
-
--- the way to the next marked place
-module _ (space : ℕ) (marks : List ℕ) (from : ℕ) where
-  abbrev pub Unmarked : ℕ → Type 0
-  Unmarked number = (p : ℕ) → from ≤ p → p < number → markAt space marks p ≡ false
-
-  pub unmarked-none : Unmarked from
-  unmarked-none p low high = absurd (omega arith)
-
-  pub unmarked-further : (number next : ℕ) → Unmarked number → ((p : ℕ) → number ≤ p → p < next → markAt space marks p ≡ false) → Unmarked next
-  unmarked-further number next so-far more p low high =
-      cases (ltb p number) (λ (t : ltb p number ≡ true). so-far p low (ltb-true p number t))
-      (λ (f : ltb p number ≡ false). more p (ltb-false p number f) high)
-
-  pub unmarked-one : (number : ℕ) → Unmarked number → markAt space marks number ≡ false → Unmarked (number + 1)
-  unmarked-one number so-far none =
-      unmarked-further number (number + 1) so-far (λ p low high. let here : p ≡ number = omega arith in rw here none)
 
 -- what a marked place adds to those below it, up to the next
 module _ {space : ℕ} {marks : List ℕ} {from next : ℕ} (found : NextMarked space marks from next) where

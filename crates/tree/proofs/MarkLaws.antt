@@ -4,7 +4,7 @@ use mathlib.Core.Path.{_≡_, refl, sym, ap, _∙_}
 use mathlib.Core.Logic.{_≢_}
 use mathlib.Core.Bool.{Bool, true, false, _&&_, _||_}
 use mathlib.Core.List.{List}
-use native.Mathlib.Nat.{add-sub-cancel-left, add-zero, pow-zero, div-one, sub-self, zero-div, zero-mod, dvd-of-mod-eq-zero}
+use native.Mathlib.Nat.{add-sub-cancel-left, add-zero, pow-zero, div-one, sub-self, dvd-of-mod-eq-zero}
 use native.Mathlib.Numerals.{one-add}
 use native.Mathlib.Omega.{arith}
 use lib.Dec.{eqb, ltb}
@@ -12,7 +12,6 @@ use lib.ListN.{length, set}
 use lib.Pow.{pow-mono, shr-shr}
 use borrow.Author.Tests.{ltb-true, ltb-false, lt-ltb, eqb-true, eq-eqb, ne-eqb}
 use lib.Seq.{getD-set-same, getD-set-other}
-use Rattle.words.specs.Fields.{bits}
 use Rattle.words.specs.Sizes.{object, spaces, selectors, start, places, domainOf, spaceOf, selectorOf}
 use Rattle.words.specs.Permissions.{permits}
 use Rattle.words.proofs.SizeLaws.{selectors-few}
@@ -22,10 +21,6 @@ use Rattle.interface.specs.Places.{Cap}
 use Rattle.interface.specs.Effects.{among, below}
 use Rattle.interface.proofs.Basics.BoolLaws.{cases}
 use Rattle.tree.specs.Walks.{cutAt, packed, wordBits, bitAt, allMarks, markOf, markWords, markedPlace, markAt, Marked}
-
--- no bit of 0 is set
-pub no-bit : (i : ℕ) → permits i 0 ≡ false
-no-bit i = let none : bits i i 0 ≡ 0 = simp (zero-div, zero-mod) in rw none
 
 module _ (test : ℕ → Bool) where
   -- the bit that tells the answer for a place
@@ -191,7 +186,7 @@ module _ (from : ℕ) (whole : from % wordBits ≡ 0) where
       omega arith
 
   -- where a mark stands
-  mark-bit : (i : ℕ) → i < wordBits → markOf (from + i) % wordBits ≡ i
+  pub mark-bit : (i : ℕ) → i < wordBits → markOf (from + i) % wordBits ≡ i
   mark-bit i l = omega (arith, mark-whole, mark-after i l)
 
   pub mark-word : (i : ℕ) → i < wordBits → markOf (from + i) / wordBits ≡ markOf from / wordBits

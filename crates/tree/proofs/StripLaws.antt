@@ -3,12 +3,14 @@ use Prim.Native.Nat.{ℕ, _+_, _/_, _%_, _≤_, _<_}
 use mathlib.Core.Path.{_≡_, refl, sym, ap, _∙_}
 use mathlib.Core.Bool.{Bool, true, false, _&&_, and-false, and-true}
 use mathlib.Core.List.{List}
+use native.Mathlib.Nat.{zero-div, zero-mod}
 use native.Mathlib.Omega.{arith}
 use lib.Dec.{eqb, ltb}
 use lib.ListN.{length}
 use borrow.Author.Tests.{eqb-true, eqb-false, eq-eqb, ne-eqb, lt-ltb, le-ltb, ltb-true, ltb-false}
+use Rattle.words.specs.Fields.{bits}
 use Rattle.words.specs.Sizes.{object, spaces, selectors, places, spaceOf}
-use Rattle.words.specs.Permissions.{revoked}
+use Rattle.words.specs.Permissions.{permits, revoked}
 use Rattle.words.proofs.PlaceLaws.{is-place, domain-back, space-back, selector-back}
 use Rattle.interface.specs.Basics.{if_then_else_, word, put}
 use Rattle.interface.specs.Places.{Cap, nothing, capAt, capTable}
@@ -20,7 +22,7 @@ use Rattle.interface.proofs.Sound.CutSound.{cut-kept, cut-stripped}
 use Rattle.places.specs.Table.{Sized}
 use Rattle.places.proofs.CapTableLaws.{length-cap-table, cap-table-same, cap-at-table-below, cap-table-back}
 use Rattle.tree.specs.Walks.{cutAt, wordBits, bitAt, allMarks, markOf, markedPlace, stands, Marked, placesOnly, Stepped, skips, strips, passes}
-use Rattle.tree.proofs.MarkLaws.{no-bit, mark-below, mark-place, mark-inside}
+use Rattle.tree.proofs.MarkLaws.{mark-below, mark-place, mark-inside}
 
 -- what is stored at a place is what stripping leaves of it
 module _ (table : List ℕ) (place mask : ℕ) {left : ℕ} {cap : Cap} (is-cap : cap ≡ capAt table place) (is-left : left ≡ revoked (cap .permissions) mask) where
@@ -52,6 +54,10 @@ module _ (marks : List ℕ) (space number : ℕ) {selector at limit : ℕ} {set 
 
   pub read-known : (set && ltb at limit) ≡ true → selector < selectors space
   read-known tested = omega (arith, is-at, is-limit, ltb-true at limit (and-right set (ltb at limit) tested))
+
+-- no bit of 0 is set
+no-bit : (i : ℕ) → permits i 0 ≡ false
+no-bit i = let none : bits i i 0 ≡ 0 = simp (zero-div, zero-mod) in rw none
 
 -- stripping the places of the marks in turn
 module _ (table : List ℕ) (mask first size : ℕ) (self : Bool) (space : ℕ) where

@@ -246,8 +246,8 @@ fn strip(table: &mut [u32], place: Place, mask: u32)
     }
 }
 
-// The first place from a number on that is marked, of the space whose marks these are, or the number of places where none is. Passes over the words of other spaces and those
-// without a mark.
+// The first place from a number on that is marked, of the space whose marks these are, or the number of places where none is. The marks of a word are looked at together, and words
+// of other spaces are passed over.
 fn next_marked(marked: &[u32; MARK_WORDS], space: u32, from: u32) -> u32
     requires { ⌜ from ≤ places ⌝ }
     ensures { λ r. ⌜ NextMarked space (now (marked .entry)) from r ⌝ }
@@ -255,17 +255,15 @@ fn next_marked(marked: &[u32; MARK_WORDS], space: u32, from: u32) -> u32
     let mut number = from;
     while number < sizes::PLACES {
         let place = Place::counted(number);
-        let known = place.space() == space;
         let mark = mark_of(place);
-        let word = marked[(mark / WORD_BITS) as usize];
-        if known & permissions::has(mark % WORD_BITS, word) {
-            return number;
+        let left = WORD_BITS - number % WORD_BITS;
+        let unmarked = u32::trailing_zeros(
+            marked[(mark / WORD_BITS) as usize] >> (mark % WORD_BITS),
+        );
+        if (place.space() == space) & (unmarked < left) {
+            return number + unmarked;
         }
-        if (number % WORD_BITS == 0) & (!known | (word == 0)) {
-            number += WORD_BITS;
-        } else {
-            number += 1;
-        }
+        number += left;
     }
     number
 }
@@ -291,7 +289,8 @@ fn list_marked(marked: &[u32; MARK_WORDS], space: u32, list: &mut [u32])
     let mut count: usize = 0;
     let mut number = next_marked(marked, space, 0);
     while number < sizes::PLACES {
-        list[count] = number;
+        let below = Place::counted(number);
+        list[count] = below.number();
         count += 1;
         number = next_marked(marked, space, number + 1);
     }

@@ -1,6 +1,6 @@
 -- The list begins with the marked places below the loop's number, which is that of a marked place or past the last, and has room for the next of them.
 use Prim.Native.Nat.{_-_, _<_, _≤_}
-use mathlib.Core.Path.{_≡_}
+use mathlib.Core.Path.{_≡_, _∙_}
 use mathlib.Core.Bool.{true}
 use native.Mathlib.Omega.{arith}
 use borrow.Author.Needs.{needs}
@@ -23,11 +23,19 @@ next-marked-requires c κs = search needs
 loop-holds : tie.Need-loop-holds Inv-loop μ-loop
 loop-holds c = let found = c .next-marked .ensures in (found .ends, omega arith, filled-none _ found, found .marked)
 
+counted-requires : tie.Need-counted-requires Inv-loop μ-loop
+counted-requires c κs = search needs
+
+number-requires : tie.Need-number-requires Inv-loop μ-loop
+number-requires c κs = search needs
+
 mul-list : tie.Need-mul-list Inv-loop μ-loop
 mul-list c = search needs
 
 slice-write-list : tie.Need-slice-write-list Inv-loop μ-loop
-slice-write-list c = let inv = c .before .loop .inv in filled-room (inv .2) (omega arith) (c .before .before .before .before .pre) (inv .3 (omega arith))
+slice-write-list c =
+    let loop = c .before .before .before in
+    filled-room (loop .loop .inv .2) (omega arith) (loop .before .before .before .pre) (loop .loop .inv .3 (omega arith))
 
 add-count : tie.Need-add-count Inv-loop μ-loop
 add-count c = search needs
@@ -44,11 +52,12 @@ loop-less c = let found = c .next-marked2 .ensures in omega (arith, found .later
 loop-again : tie.Need-loop-again Inv-loop μ-loop
 loop-again c =
     let found = c .next-marked2 .ensures in
-    let loop = c .before .before in
+    let loop = c .before .before .before .before in
     let inv = loop .loop .inv in
     let here = inv .3 (omega arith) in
     let room = filled-room (inv .2) (omega arith) (loop .before .before .before .pre) here in
-    (found .ends, omega (arith, found .later, inv .1), filled-more (inv .2) room here found, found .marked)
+    let is-word = c .before .number .ensures ∙ c .before .before .counted .ensures in
+    (found .ends, omega (arith, found .later, inv .1), rw is-word (filled-more (inv .2) room here found), found .marked)
 
 same-length : tie.Need-same-length Inv-loop μ-loop
 same-length c = c .before .loop .inv .2 .as-long
@@ -64,6 +73,8 @@ list-marked-spec =
     μ-loop
     next-marked-requires
     loop-holds
+    counted-requires
+    number-requires
     mul-list
     slice-write-list
     add-count
