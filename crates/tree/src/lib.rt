@@ -9,7 +9,7 @@ ghost use Rattle.interface.specs.Places.{capAt, capTable};
 ghost use Rattle.interface.specs.Effects.{ancestors, below, stripped, cutCaps};
 ghost use Rattle.interface.specs.Census.{counted};
 ghost use Rattle.places.specs.Table.{Sized};
-ghost use Rattle.tree.specs.Walks.{Linked, InSpace, Stepped, firstAmong, cutAt, wordBits, packed, allMarks, markOf, bitAt, Marked, Marking, NextMarked, markedPlaces, meets, parentlessFrom, placesOnly};
+ghost use Rattle.tree.specs.Walks.{Linked, InSpace, Stepped, firstAmong, cutAt, wordBits, packed, allMarks, markOf, bitAt, markWords, Marked, Marking, NextMarked, markedPlaces, meets, parentlessFrom, placesOnly};
 use descriptor::Cap;
 use descriptor::FoundPlace;
 use descriptor::Place;
@@ -157,22 +157,20 @@ fn mark_word(
 }
 
 // Which places of the range's space lose permissions, a bit for each: found on the table as it is, before any is stripped.
-fn marks(table: &[u32], first: Place, size: u32, self_too: bool) -> [u32; MARK_WORDS]
-    requires { ⌜ Sized (now table) × Linked (capAt (now table)) × InSpace (first .0) size ⌝ }
-    ensures { λ r. ⌜ Marked (cutAt (capAt (now (table .entry))) (first .0) size «self_too») places (spaceOf (first .0)) r ⌝ }
+fn marks(table: &[u32], first: Place, size: u32, self_too: bool, marked: &mut [u32; MARK_WORDS])
+    requires { ⌜ Sized (now table) × Linked (capAt (now table)) × InSpace (first .0) size × (length (now marked) ≡ markWords) ⌝ }
+    ensures { λ r. ⌜ Marked (cutAt (capAt (now (table .entry))) (first .0) size «self_too») places (spaceOf (first .0)) (now (marked .exit)) ⌝ }
 {
     let space = first.space();
-    let mut marked = [0u32; MARK_WORDS];
     let mut walked = 0u32;
     while walked < sizes::PLACES {
         let from = Place::counted(walked);
         walked += WORD_BITS;
         if from.space() == space {
-            let word = mark_word(table, &marked, from, first, size, self_too);
+            let word = mark_word(table, marked, from, first, size, self_too);
             marked[(mark_of(from) / WORD_BITS) as usize] = word;
         }
     }
-    marked
 }
 
 // Removes a mask's permissions from every strict descendant of the places from `first` on, and from those places too if asked. A place left with none becomes null.
@@ -181,7 +179,8 @@ pub fn cut(table: &mut [u32], mask: u32, first: Place, size: u32, self_too: bool
     ensures { λ r. ⌜ now (table .exit) ≡ capTable (cutCaps mask (first .0) size «self_too» (capAt (now (table .entry)))) ⌝ }
 {
     let space = first.space();
-    let marked = marks(table, first, size, self_too);
+    let mut marked = [0u32; MARK_WORDS];
+    marks(table, first, size, self_too, &mut marked);
     let mut number = 0u32;
     while number < MARKS {
         number = strip_next(table, &marked, mask, space, number);
@@ -309,7 +308,8 @@ pub fn census(place: u32, table: &[u32], list: &mut [u32]) -> Reply
         return Reply::BadCap;
     }
     let space = at.space();
-    let marked = marks(table, at, 1, false);
+    let mut marked = [0u32; MARK_WORDS];
+    marks(table, at, 1, false, &mut marked);
     let count = count_marked(&marked, space);
     if list.len() < (count as usize) {
         return Reply::Short(count);

@@ -1,5 +1,5 @@
 -- Each way out is one of the definition's.
-use mathlib.Core.Path.{ap, _∙_}
+use mathlib.Core.Path.{refl, ap, _∙_}
 use native.Mathlib.Omega.{arith}
 use lib.ListN.{length}
 use borrow.Author.Needs.{needs}
@@ -38,9 +38,9 @@ space-requires c κs = search needs
 
 marks-requires : tie.Need-marks-requires
 marks-requires c κs =
-    let named = c .before .before .before .before .before in
+    let named = c .before .before .before .before .before .before in
     let start = named .before .before .before .before .before in
-    (start .pre .0, start .pre .1, alone _ (named-small _ (named .before .before .found .ensures) _ (named .at .given .1)))
+    (start .pre .0, start .pre .1, alone _ (named-small _ (named .before .before .found .ensures) _ (named .at .given .1)), refl)
 
 count-marked-requires : tie.Need-count-marked-requires
 count-marked-requires c κs = search needs
@@ -52,10 +52,11 @@ returns-3 : tie.Need-returns-3
 returns-3 c =
     let counted = c .before in
     let asked = counted .before .before in
-    let loaded = asked .before .before .before .before in
-    let descend = marked-descendants _ _ (asked .before .space .ensures) (asked .marks .ensures) in
+    let live = asked .before .before in
+    let loaded = live .before .before .before in
+    let descend = marked-descendants _ _ (live .space .ensures) (asked .marks .ensures) in
     counts-short _ _ _ (loaded .before .before .before .before .found .ensures) (loaded .before .before .at .given .1) (loaded .load .ensures)
-    (asked .before .before .before .is-live .ensures) (asked .before .before .if1 .left) (counted .count-marked .ensures ∙ ap length descend) (c .if2 .taken)
+    (live .before .before .is-live .ensures) (live .before .if1 .left) (counted .count-marked .ensures ∙ ap length descend) (c .if2 .taken)
 
 list-marked-requires : tie.Need-list-marked-requires
 list-marked-requires c κs = omega (arith, c .before .before .before .count-marked .ensures)
@@ -69,10 +70,11 @@ returns-4 c =
     let fits = listed .before .before .before in
     let counted = fits .before in
     let asked = counted .before .before in
-    let loaded = asked .before .before .before .before in
-    let descend = marked-descendants _ _ (asked .before .space .ensures) (asked .marks .ensures) in
+    let live = asked .before .before in
+    let loaded = live .before .before .before in
+    let descend = marked-descendants _ _ (live .space .ensures) (asked .marks .ensures) in
     counts-all _ _ _ (loaded .before .before .before .before .found .ensures) (loaded .before .before .at .given .1) (loaded .load .ensures)
-    (asked .before .before .before .is-live .ensures) (asked .before .before .if1 .left) (counted .count-marked .ensures ∙ ap length descend) (fits .if2 .left)
+    (live .before .before .is-live .ensures) (live .before .if1 .left) (counted .count-marked .ensures ∙ ap length descend) (fits .if2 .left)
     (rw descend at (listed .list-marked .ensures))
 
 pub census-spec : {M : Type 1} → statement M

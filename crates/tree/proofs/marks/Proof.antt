@@ -13,17 +13,17 @@ use Rattle.tree.proofs.marks.Statement.{statement}
 use Rattle.tree.proofs.marks.Tie as tie
 
 abbrev Inv-loop : tie.InvT-loop
-Inv-loop table first size self-too space marked₀ walked₀ marked walked =
+Inv-loop table first size self-too marked₀ space walked₀ marked walked =
     (walked ≤ places) × (walked % wordBits ≡ 0) × (length marked ≡ markWords) × Marked (cutAt (capAt table) (first .0) size self-too) walked space marked
 
 abbrev μ-loop : tie.MeasureT-loop
-μ-loop table first size self-too space marked₀ walked₀ marked walked = places - walked
+μ-loop table first size self-too marked₀ space walked₀ marked walked = places - walked
 
 space-requires : tie.Need-space-requires Inv-loop μ-loop
 space-requires c κs = search needs
 
 loop-holds : tie.Need-loop-holds Inv-loop μ-loop
-loop-holds c = (omega arith, omega arith, refl, marked-none _ _ _)
+loop-holds c = (omega arith, omega arith, c .before .before .pre .3, marked-none _ _ _)
 
 counted-requires : tie.Need-counted-requires Inv-loop μ-loop
 counted-requires c κs = search needs
@@ -59,8 +59,8 @@ cast-marked c = search needs
 mul-marked : tie.Need-mul-marked Inv-loop μ-loop
 mul-marked c = search needs
 
-array-write-marked : tie.Need-array-write-marked Inv-loop μ-loop
-array-write-marked c =
+element-write-marked : tie.Need-element-write-marked Inv-loop μ-loop
+element-write-marked c =
     let counts = c .before .before .before .before .before .counted .ensures in
     rw (c .mark-of .ensures, counts) (mark-small _ (omega arith))
 
@@ -118,7 +118,7 @@ marks-spec =
     mark-of-requires
     cast-marked
     mul-marked
-    array-write-marked
+    element-write-marked
     loop-less
     loop-again
     loop-less-2
