@@ -156,7 +156,7 @@ fn mark_word(
     word
 }
 
-// Which places of the range's space lose permissions, a bit for each: found on the table as it is, before any is stripped.
+// Marks in the given words which places of the range's space lose permissions, a bit for each: found on the table as it is, before any is stripped.
 fn marks(table: &[u32], first: Place, size: u32, self_too: bool, marked: &mut [u32; MARK_WORDS])
     requires { ⌜ Sized (now table) × Linked (capAt (now table)) × InSpace (first .0) size × (length (now marked) ≡ markWords) ⌝ }
     ensures { λ r. ⌜ Marked (cutAt (capAt (now (table .entry))) (first .0) size «self_too») places (spaceOf (first .0)) (now (marked .exit)) ⌝ }
