@@ -117,6 +117,17 @@ module _ (n : ℕ) (test : ℕ → Bool) where
       let l = ltb-true lowest-failure n t in not-both (test lowest-failure) (h lowest-failure l) (failure-fails l))
       (λ (f : ltb lowest-failure n ≡ false). f)
 
+  -- a failure with none below it is the lowest
+  pub failure-at : (k : ℕ) → k < n → test k ≡ false → ((i : ℕ) → i < k → test i ≡ true) → lowest-failure ≡ k
+  failure-at k l fails holds =
+      cases (ltb lowest-failure k)
+      (λ (t : ltb lowest-failure k ≡ true).
+      let b = ltb-true lowest-failure k t in not-both (test lowest-failure) (holds lowest-failure b) (failure-fails (omega arith)))
+      (λ (f : ltb lowest-failure k ≡ false).
+      let past = ltb-false lowest-failure k f in
+      cases (ltb k lowest-failure) (λ (t : ltb k lowest-failure ≡ true). not-both (test k) (below-failure k (ltb-true k lowest-failure t)) fails)
+      (λ (g : ltb k lowest-failure ≡ false). omega (arith, ltb-false k lowest-failure g)))
+
   -- a test that does not hold of all fails somewhere
   pub all-below-fails : allBelow n test ≡ false → (i : ℕ) × (i < n) × (test i ≡ false)
   all-below-fails h =

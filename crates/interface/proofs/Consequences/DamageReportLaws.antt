@@ -102,7 +102,7 @@ none-kept s (rule ∷ rules) h =
     (keeps-rule s rule (no-failure records (rule .record-keeps s) f) (no-failure places (rule .place-keeps s) g))
     (none-kept s rules (rw (f, g) at h))))
 
-kept-none : (s : State) (rules : List Rule) → all (keeps s) rules ≡ true → firstFault s rules ≡ NoFault
+pub kept-none : (s : State) (rules : List Rule) → all (keeps s) rules ≡ true → firstFault s rules ≡ NoFault
 unfolding firstFault
 kept-none s [] h = refl
 kept-none s (rule ∷ rules) h =

@@ -1,16 +1,16 @@
 -- The examples, by computation.
 use Prim.Native.Nat.{ℕ, _+_}
 use mathlib.Core.Path.{_≡_, refl, ap, _∙_}
-use mathlib.Core.Bool.{true}
+use mathlib.Core.Bool.{Bool, true, false}
 use mathlib.Core.List.{List, [], _∷_, _++_}
 use Rattle.words.specs.Sizes.{memory, object, placeOf, spaceOf}
-use Rattle.descriptor.specs.Descriptors.{wellFormed, wrapped, reading, matched}
-use Rattle.interface.specs.Basics.{put, listed, allBelow, anyBelow, countBelow, lowest, all, any}
-use Rattle.interface.specs.Places.{State, PD, domainWord}
-use Rattle.interface.specs.Boot.{hypervisor, root, bootRecord, hypervisorCap, rootCap, bootCap}
-use Rattle.interface.specs.Damage.{fixed-record, fixed-place, interrupt-rule, unnamed-rule, used-first, pdsBelow, pd-rule, hasPd, isEc, ec-rule, sc-rule, pt-rule, null-place, live-place, shallow, keeps, soundState}
-use Rattle.interface.specs.Effects.{Effect, give, chain, ancestors, below, fills, stripped, cutCaps, act, run, fillsOne, filled, make, hold}
-use Rattle.interface.specs.Verdicts.{CALL, grant, deliver, replyOf, blockOf, CREATE-PD}
+use Rattle.descriptor.specs.Descriptors.{matched}
+use Rattle.interface.specs.Basics.{if_then_else_, listed, allBelow, countBelow, lowest}
+use Rattle.interface.specs.Places.{Cap, State, PD, domainWord}
+use Rattle.interface.specs.Boot.{boot, hypervisor, root}
+use Rattle.interface.specs.Damage.{pdsBelow, isEc, soundState}
+use Rattle.interface.specs.Effects.{Effect, give, cut, run, fillsOne, filled, make, hold}
+use Rattle.interface.specs.Verdicts.{CALL, CREATE-PD, LOOKUP, grant, deliver, replyOf, blockOf}
 use Rattle.interface.specs.Creations.{freeRecord, creation, createSm, createPd}
 use Rattle.interface.specs.Revoke.{revoke}
 use Rattle.interface.specs.Lookup.{uniform, largest, around, found, lookup}
@@ -18,28 +18,63 @@ use Rattle.interface.specs.Message.{payloadFits, sourceDomain, delegateI
 use Rattle.interface.specs.PortalCalls.{portalCall}
 use Rattle.interface.specs.Rules.{hypercall, called, rules, after}
 use Rattle.interface.specs.Journal.{bodyBytes, bodyWord, recordedCall, done, short, unknown, ended, beginning, readBy, contentsFrom, stopLines, replay, width, spelled, spelledLines}
-use Rattle.interface.specs.Examples.{Each, calledExamples, neighbour, messageCap, messageRecord, messageState, blockBefore, blockReceived, exampleMessage, WorkedExamples, MessageExample, exampleJournal, JournalExample, lookupRecord, JournalStops, exampleRange, RangeExample, LayoutExamples}
-use Rattle.interface.proofs.Tables.VerdictLaws.{after-verdict}
+use Rattle.interface.specs.Examples.{Each, rootLookup, placedLine, revokeLine, calledExamples, neighbour, messageCap, messageRecord, messageState, blockBefore, blockReceived, exampleMessage, WorkedExamples, MessageExample, exampleJournal, JournalExample, lookupRecord, JournalStops, exampleRange, RangeExample, LayoutExamples}
+use Rattle.interface.proofs.Tables.VerdictLaws.{sound-rules, after-verdict}
+use Rattle.interface.proofs.Sound.Soundness.{sound-facts, facts-sound, tested-sound, damage-rules}
+use Rattle.interface.proofs.History.BootLaws.{boot-tables, boot-sound}
+use Rattle.interface.proofs.History.DemandLaws.{after-sound}
 use Rattle.interface.proofs.Journal.JournalLaws.{stateLines, stateReplay, replay-shown}
+use Rattle.interface.proofs.Examples.Shared.{_and_, descriptors, steps, dispatch}
+
+-- the line of descent on its places: its state is sound, and REVOKE comes to these steps
+placed-sound : soundState placedLine ≡ true
+unfolding damage-rules boot-tables
+placed-sound =
+    tested-sound placedLine (refl and refl and refl and refl and refl and refl and refl and refl and tt) (refl and refl and refl and refl and tt)
+
+revoke-granted : (self : Bool) → rules placedLine (revokeLine (if self then 1 else 0)) ≡ grant 0 (cut 2 (placeOf root memory 8) 1 self ∷ [])
+unfolding dispatch descriptors isEc boot-tables revoke
+revoke-granted true = sound-rules placedLine (revokeLine 1) placed-sound ∙ refl
+revoke-granted false = sound-rules placedLine (revokeLine 0) placed-sound ∙ refl
+
+revoke-after : (self : Bool) → after placedLine (revokeLine (if self then 1 else 0)) ≡ run (cut 2 (placeOf root memory 8) 1 self ∷ []) placedLine
+revoke-after self =
+    after-verdict placedLine (revokeLine (if self then 1 else 0)) (grant 0 (cut 2 (placeOf root memory 8) 1 self ∷ [])) (revoke-granted self)
+
+abbrev lineCaps : State → List Cap
+lineCaps s = s .caps 200 ∷ s .caps 392 ∷ s .caps 584 ∷ []
 
 called-examples : Each calledExamples
-unfolding spaceOf wellFormed wrapped reading put allBelow anyBelow countBelow all any bootRecord hypervisorCap rootCap bootCap fixed-record fixed-place interrupt-rule unnamed-rule used-first pdsBelow pd-rule hasPd isEc ec-rule sc-rule pt-rule null-place live-place shallow keeps soundState chain ancestors below stripped cutCaps act run revoke hypercall called rules after
-called-examples = (refl, (refl, (refl, (refl, (refl, (refl, (refl, (refl, (refl, (refl, (refl, tt)))))))))))
+unfolding descriptors boot-tables steps
+called-examples =
+    placed-sound and refl and ap replyOf (revoke-granted false) and ap lineCaps (revoke-after false) and ap replyOf (revoke-granted true) and
+    ap lineCaps (revoke-after true) and
+    facts-sound (after placedLine (revokeLine 1)) (after-sound placedLine (revokeLine 1) (sound-facts placedLine placed-sound)) and
+    ap (λ (s : State). s .caps 8) (revoke-after true) and refl and refl and refl and tt
 
-computed : WorkedExamples × (stateReplay exampleJournal ≡ done 0 6 0 0 ∷ done 1 8 0 163855 ∷ ended 2 ∷ [])
-unfolding spaceOf wellFormed wrapped reading put listed allBelow anyBelow countBelow lowest all any bootRecord hypervisorCap rootCap bootCap fixed-record fixed-place interrupt-rule unnamed-rule used-first pdsBelow pd-rule hasPd isEc ec-rule sc-rule pt-rule null-place live-place shallow keeps soundState chain ancestors below fills stripped cutCaps act run freeRecord creation createSm uniform largest around found lookup hypercall called rules after bodyBytes bodyWord recordedCall beginning readBy contentsFrom stopLines stateLines
-computed = (
-  (refl, (refl, (refl, (refl, (refl, (refl, (refl, (refl, (refl, (refl, (refl, (refl, (refl, (refl, (refl, (refl, (refl, (refl, (called-examples, tt))))))))))))))))))),
-  refl,
-)
+-- the root's LOOKUP after boot
+looked-up : (selector : ℕ) → rules boot (rootLookup selector) ≡ called boot (rootLookup selector) (hypercall LOOKUP)
+looked-up selector = sound-rules boot (rootLookup selector) boot-sound
 
 pub worked-examples : WorkedExamples
-worked-examples = computed .0
+unfolding dispatch descriptors isEc boot-tables steps listed allBelow lowest uniform largest around found lookup
+worked-examples =
+    refl and refl and refl and refl and refl and refl and refl and refl and refl and refl and refl and refl and refl and refl and refl and refl and
+    ap replyOf (looked-up 32) and ap replyOf (looked-up 35) and called-examples and tt
+
+-- to unfold this is to unfold what the lines of journals on states compute by
+unfoldable journals : Unit {0}
+unfolding dispatch descriptors isEc boot-tables steps listed allBelow lowest found lookup bodyBytes bodyWord recordedCall beginning readBy contentsFrom stopLines stateLines
+journals = tt
+
+example-computed : stateReplay exampleJournal ≡ done 0 6 0 0 ∷ done 1 8 0 163855 ∷ ended 2 ∷ []
+unfolding journals countBelow freeRecord creation createSm uniform largest around
+example-computed = refl
 
 pub journal-example : JournalExample
 unfolding width spelled spelledLines
 journal-example =
-    let lines : replay exampleJournal ≡ done 0 6 0 0 ∷ done 1 8 0 163855 ∷ ended 2 ∷ [] = replay-shown exampleJournal ∙ computed .1 in (
+    let lines : replay exampleJournal ≡ done 0 6 0 0 ∷ done 1 8 0 163855 ∷ ended 2 ∷ [] = replay-shown exampleJournal ∙ example-computed in (
       lines,
       (ap spelledLines lines, tt),
     )
@@ -52,7 +87,7 @@ stops-computed :
     (stateReplay (1 ∷ []) ≡ unknown 1 ∷ ended 0 ∷ []) ×
     (stateReplay (lookupRecord ++ (255 ∷ lookupRecord)) ≡ done 0 8 0 0 ∷ unknown 255 ∷ ended 1 ∷ []) ×
     (stateReplay (11 ∷ 0 ∷ 0 ∷ 0 ∷ 0 ∷ 0 ∷ 0 ∷ 0 ∷ 0 ∷ 0 ∷ 0 ∷ 0 ∷ 0 ∷ []) ≡ done 0 11 18 0 ∷ ended 1 ∷ [])
-unfolding spaceOf wellFormed wrapped reading put listed allBelow anyBelow countBelow lowest all any bootRecord hypervisorCap rootCap bootCap fixed-record fixed-place interrupt-rule unnamed-rule used-first pdsBelow pd-rule hasPd isEc ec-rule sc-rule pt-rule null-place live-place shallow keeps soundState act run found lookup hypercall called rules after bodyBytes bodyWord recordedCall beginning readBy contentsFrom stopLines stateLines
+unfolding journals
 stops-computed = (refl, refl, refl, refl, refl, refl, refl)
 
 pub journal-stops : JournalStops
@@ -89,22 +124,27 @@ messageGives =
     give (placeOf neighbour memory 46) (placeOf hypervisor memory 6) 7 ∷ give (placeOf neighbour memory 47) (placeOf hypervisor memory 7) 7 ∷ []
 
 message-sound : soundState messageState ≡ true
-unfolding messageCap messageRecord spaceOf allBelow anyBelow countBelow all bootRecord hypervisorCap rootCap bootCap fixed-record fixed-place interrupt-rule unnamed-rule used-first pdsBelow pd-rule hasPd isEc ec-rule sc-rule pt-rule null-place live-place shallow keeps soundState
-message-sound = refl
+unfolding messageCap messageRecord damage-rules boot-tables
+message-sound =
+    tested-sound messageState (refl and refl and refl and refl and refl and refl and refl and refl and tt) (refl and refl and refl and refl and tt)
+
+-- to unfold this is to unfold what a message's items compute by
+unfoldable items : Unit {0}
+unfolding matched fillsOne filled payloadFits sourceDomain delegateItem firstIn nearest common translates translateItem itemOf untypedCopied carried
+items = tt
 
 message-called : called messageState exampleMessage (hypercall CALL) ≡ deliver 4 messageGives blockReceived
-unfolding messageCap messageRecord spaceOf wellFormed wrapped reading matched put listed allBelow bootRecord hypervisorCap rootCap bootCap isEc chain ancestors fills act run fillsOne filled payloadFits sourceDomain delegateItem firstIn nearest common translates translateItem itemOf untypedCopied carried portalCall hypercall called
+unfolding messageCap messageRecord dispatch descriptors isEc boot-tables steps listed allBelow items portalCall
 message-called = refl
 
 message-granted : rules messageState exampleMessage ≡ deliver 4 messageGives blockReceived
-unfolding rules
-message-granted = rw message-sound message-called
+message-granted = sound-rules messageState exampleMessage message-sound ∙ message-called
 
 message-places : (place : ℕ) → after messageState exampleMessage .caps place ≡ run messageGives messageState .caps place
 message-places place = ap (λ (s : State). s .caps place) (after-verdict messageState exampleMessage (deliver 4 messageGives blockReceived) message-granted)
 
 pub computed-message : MessageExample
-unfolding messageCap spaceOf put hypervisorCap bootCap fills act run
+unfolding messageCap spaceOf boot-tables steps
 computed-message = (
   ap replyOf message-granted,
   (
@@ -128,18 +168,17 @@ rangeSteps =
     make 34 (PD ∷ 3 ∷ []) ∷ listed 8 (λ i. give (placeOf 3 object (40 + i)) (placeOf root object (40 + i)) 2) ++ (hold (placeOf root object 41) 34 ∷ [])
 
 range-called : called messageState exampleRange (hypercall CREATE-PD) ≡ grant 0 rangeSteps
-unfolding messageCap messageRecord spaceOf wellFormed wrapped reading listed countBelow lowest bootRecord hypervisorCap rootCap bootCap pdsBelow isEc freeRecord creation createPd hypercall called
+unfolding messageCap messageRecord dispatch descriptors listed countBelow lowest boot-tables pdsBelow isEc freeRecord creation createPd
 range-called = refl
 
 range-granted : rules messageState exampleRange ≡ grant 0 rangeSteps
-unfolding rules
-range-granted = rw message-sound range-called
+range-granted = sound-rules messageState exampleRange message-sound ∙ range-called
 
 range-after : after messageState exampleRange ≡ run rangeSteps messageState
 range-after = after-verdict messageState exampleRange (grant 0 rangeSteps) range-granted
 
 pub computed-range : RangeExample
-unfolding messageCap messageRecord spaceOf put listed bootRecord hypervisorCap rootCap bootCap fills act run
+unfolding messageCap messageRecord spaceOf boot-tables steps listed
 computed-range = (
   ap replyOf range-granted,
   (
@@ -155,7 +194,7 @@ computed-range = (
 )
 
 pub layout-computed : LayoutExamples
-unfolding spaceOf listed bootRecord hypervisorCap rootCap bootCap hypercall bodyBytes
+unfolding spaceOf listed boot-tables hypercall bodyBytes
 layout-computed =
     record {
       hypercall-numbers = (refl, (refl, (refl, (refl, (refl, (refl, (refl, (refl, (refl, (refl, (refl, (refl, (refl, (refl, tt))))))))))))));

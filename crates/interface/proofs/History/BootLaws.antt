@@ -5,27 +5,29 @@ use mathlib.Core.Bool.{true, false, _&&_}
 use native.Mathlib.Omega.{arith}
 use lib.Dec.{eqb, ltb, leb}
 use lib.ListN.{length, List·getD-eq-default}
-use borrow.Author.Tests.{ne-eqb, eqb-true, eqb-false, lt-ltb, le-ltb, ltb-true, ltb-false, leb-true}
+use borrow.Author.Tests.{eq-eqb, ne-eqb, eqb-true, eqb-false, lt-ltb, le-ltb, ltb-true, ltb-false, leb-true}
 use Rattle.words.specs.Sizes.{domainOf, spaceOf, places, records, recordWords}
-use Rattle.interface.specs.Basics.{if_then_else_, put, allBelow, anyBelow, countBelow, all}
+use Rattle.interface.specs.Basics.{if_then_else_, put, allBelow}
 use Rattle.interface.specs.Places.{Cap, State, live, nothing}
 use Rattle.interface.specs.Boot.{hypervisor, root, cpus, rootPd, rootEc, rootSc, bootRecord, hypervisorCap, rootCap, bootCap, boot}
-use Rattle.interface.specs.Damage.{sameCap, fixed-record, fixed-place, interrupt-rule, unnamed-rule, used-first, pdsBelow, pd-rule, hasPd, isEc, ec-rule, sc-rule, pt-rule, null-place, live-place, shallow, keeps, soundState}
+use Rattle.interface.specs.Damage.{sameCap, fixed-place, null-place, shallow, soundState}
 use Rattle.interface.specs.History.{Filling, History, latest, standing, held, placeLink, heldCap, told, added, bootFillings, bootHistory}
-use Rattle.interface.proofs.Basics.BoolLaws.{cases, and-left, and-right}
-use Rattle.interface.proofs.Basics.BelowLaws.{all-below-at}
+use Rattle.interface.proofs.Basics.BoolLaws.{cases, and-left, and-right, asked-anyway}
+use Rattle.interface.proofs.Basics.BelowLaws.{all-below-at, all-below}
 use Rattle.interface.proofs.Basics.PutLaws.{put-same, put-other}
-use Rattle.interface.proofs.Sound.PlaceFacts.{same-cap}
+use Rattle.interface.proofs.Sound.Soundness.{tested-sound, damage-rules}
+use Rattle.interface.proofs.Sound.PlaceFacts.{same-cap, null-test}
 use Rattle.interface.proofs.Tables.TableLaws.{state-same}
 use Rattle.interface.proofs.History.NoteLaws.{Follows, null-held, added-follows}
 
-pub boot-sound : soundState boot ≡ true
-unfolding spaceOf allBelow anyBelow countBelow all bootRecord hypervisorCap rootCap bootCap fixed-record fixed-place interrupt-rule unnamed-rule used-first pdsBelow pd-rule hasPd isEc ec-rule sc-rule pt-rule null-place live-place shallow keeps soundState
-boot-sound = refl
+-- to unfold this is to unfold what boot's tables compute by
+unfoldable pub boot-tables : Unit {0}
+unfolding bootRecord hypervisorCap rootCap bootCap
+boot-tables = tt
 
 -- what boot fills has no parent and depth 0, and the rest is null
 boot-shape : allBelow places (λ p. if live (bootCap p) then eqb (bootCap p .parent) 0 && eqb (bootCap p .depth) 0 else sameCap (bootCap p) nothing) ≡ true
-unfolding spaceOf allBelow bootRecord hypervisorCap rootCap bootCap
+unfolding spaceOf allBelow boot-tables
 boot-shape = refl
 
 -- the records of boot are no longer than records are
@@ -39,7 +41,7 @@ module _ (p : ℕ) (l : p < places) where
       all-below-at places (λ p. if live (bootCap p) then eqb (bootCap p .parent) 0 && eqb (bootCap p .depth) 0 else sameCap (bootCap p) nothing)
       boot-shape p l
 
-  boot-parent : live (bootCap p) ≡ true → bootCap p .parent ≡ 0
+  pub boot-parent : live (bootCap p) ≡ true → bootCap p .parent ≡ 0
   boot-parent t =
       eqb-true (bootCap p .parent) 0 (and-left (eqb (bootCap p .parent) 0) (eqb (bootCap p .depth) 0) (rw t at shape))
 
@@ -49,6 +51,37 @@ module _ (p : ℕ) (l : p < places) where
 
   boot-null : live (bootCap p) ≡ false → bootCap p ≡ nothing
   boot-null f = same-cap (bootCap p) nothing (rw f at shape)
+
+-- so its places keep the rules, of which only what live places name is left to compute
+same-self : (a : Cap) → sameCap a a ≡ true
+same-self a =
+    rw (
+      eq-eqb (a .resource) (a .resource) refl,
+      eq-eqb (a .permissions) (a .permissions) refl,
+      eq-eqb (a .parent) (a .parent) refl,
+      eq-eqb (a .depth) (a .depth) refl,
+    )
+
+boot-fixed : allBelow places (fixed-place boot) ≡ true
+unfolding fixed-place
+boot-fixed =
+    all-below places (fixed-place boot)
+    (λ p l. asked-anyway (eqb (domainOf p) hypervisor) (sameCap (bootCap p) (bootCap p)) (same-self (bootCap p)))
+
+boot-nulls : allBelow places (null-place boot) ≡ true
+boot-nulls = all-below places (null-place boot) (λ p l. null-test boot p (boot-null p l))
+
+boot-shallow : allBelow places (shallow boot) ≡ true
+unfolding shallow
+boot-shallow =
+    all-below places (shallow boot)
+    (λ p l.
+    cases (live (bootCap p)) (λ (t : live (bootCap p) ≡ true). rw (boot-depth p l t)) (λ (f : live (bootCap p) ≡ false). rw (boot-null p l f)))
+
+pub boot-sound : soundState boot ≡ true
+unfolding damage-rules boot-tables
+boot-sound =
+    tested-sound boot (refl, (refl, (refl, (refl, (refl, (refl, (refl, (refl, tt)))))))) (boot-fixed, (boot-nulls, (refl, (boot-shallow, tt))))
 
 -- boot fills nothing past the places, and has no record past the records
 pub boot-past : (p : ℕ) → places ≤ p → bootCap p ≡ nothing

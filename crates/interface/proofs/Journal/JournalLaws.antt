@@ -12,13 +12,15 @@ use borrow.Author.Tests.{ltb-false, le-ltb}
 use Rattle.descriptor.specs.Replies.{statusOf, answerOf}
 use Rattle.interface.specs.Places.{State, Tables, tablesOf}
 use Rattle.interface.specs.Boot.{boot}
-use Rattle.interface.specs.Verdicts.{Call, replyOf}
-use Rattle.interface.specs.Rules.{rules, after, judged, hypercallTables}
+use Rattle.interface.specs.Effects.{run}
+use Rattle.interface.specs.Verdicts.{Call, replyOf, effectsOf}
+use Rattle.interface.specs.Rules.{hypercall, called, judged, hypercallTables}
 use Rattle.interface.specs.History.{History, hypercalls, told, tell, bootHistory}
 use Rattle.interface.specs.Demand.{tablesAfter, tablesAfterAll}
 use Rattle.interface.specs.Journal.{bodyBytes, recordedCall, Line, done, spelled, spelledLines, Beginning, empty, of-no-kind, cut-off, whole, beginning, Contents, readBy, contentsFrom, contents, recorded, linesFrom, lastLines, replayFrom, replay, replayPieces, PartsInTurn, PiecesInTurn}
 use Rattle.interface.proofs.Basics.BoolLaws.{cases}
-use Rattle.interface.proofs.Sound.Soundness.{Sound, sound-facts}
+use Rattle.interface.proofs.Sound.Soundness.{Sound, sound-facts, facts-sound}
+use Rattle.interface.proofs.Tables.VerdictLaws.{sound-rules, after-verdict}
 use Rattle.interface.proofs.History.HistoryLaws.{Valid}
 use Rattle.interface.proofs.History.BootLaws.{boot-sound, boot-follows}
 use Rattle.interface.proofs.History.LentOutLaws.{judged-shown, tables-shown}
@@ -225,11 +227,13 @@ pub pieces-in-turn : PiecesInTurn
 unfolding beginning
 pieces-in-turn pieces = pieces-from pieces (tablesOf boot) 0 [] (λ kind body later e. let z : _≡_ {A = ℕ} 0 1 = cc in omega arith)
 
--- the lines of hypercalls on states, and of a journal, from boot on
+-- the lines of hypercalls on sound states, which are not tested for damage, and of a journal, from boot on
 unfoldable pub stateLines : State → ℕ → List Call → List Line
 stateLines s index [] = []
 stateLines s index (c ∷ calls) =
-    let reply = replyOf (rules s c) in done index (c .number) (statusOf reply) (answerOf reply) ∷ stateLines (after s c) (index + 1) calls
+    let verdict = called s c (hypercall (c .number)) in
+    let reply = replyOf verdict in
+    done index (c .number) (statusOf reply) (answerOf reply) ∷ stateLines (run (effectsOf verdict) s) (index + 1) calls
 
 abbrev pub stateReplay : List ℕ → List Line
 stateReplay journal =
@@ -242,12 +246,13 @@ unfolding linesFrom stateLines
 lines-shown [] tables index h e valid sound = refl
 lines-shown (c ∷ calls) tables index h e valid sound =
     let follows = tell-follows h c valid sound in
-    let verdict : judged tables c ≡ rules (told h) c = ap (λ (t : Tables). judged t c) e ∙ judged-shown h valid c in
+    let ruled = sound-rules (told h) c (facts-sound (told h) sound) in
+    let verdict : judged tables c ≡ called (told h) c (hypercall (c .number)) = ap (λ (t : Tables). judged t c) e ∙ judged-shown h valid c ∙ ruled in
     let later = lines-shown calls (hypercallTables tables c) (index + 1) (tell h (hypercalls c))
     (ap (λ (t : Tables). hypercallTables t c) e ∙ tables-shown h valid c ∙ ap tablesOf (sym (follows .0)))
     (follows .1)
     (subst Sound (sym (follows .0)) (after-sound (told h) c sound)) in
-    rw (verdict, later, follows .0)
+    rw (verdict, later, follows .0, after-verdict (told h) c (called (told h) c (hypercall (c .number))) ruled)
 
 -- so a journal's lines are those on the states from boot on
 pub replay-shown : (journal : List ℕ) → replay journal ≡ stateReplay journal

@@ -3,10 +3,10 @@ use Prim.Native.Nat.{ℕ, _<_}
 use mathlib.Core.Path.{_≡_, refl}
 use mathlib.Core.Bool.{Bool, true}
 use mathlib.Core.List.{List, [], _∷_}
-use Rattle.words.specs.Sizes.{places, records}
-use Rattle.interface.specs.Basics.{allBelow, all}
+use Rattle.words.specs.Sizes.{spaceOf, places, records}
+use Rattle.interface.specs.Basics.{allBelow, anyBelow, countBelow, all}
 use Rattle.interface.specs.Places.{State}
-use Rattle.interface.specs.Damage.{Rule, fixed-record, fixed-place, interrupt-rule, unnamed-rule, used-first, pd-rule, ec-rule, sc-rule, pt-rule, null-place, live-place, shallow, rulesOfDamage, keeps, soundState}
+use Rattle.interface.specs.Damage.{Rule, fixed-record, fixed-place, interrupt-rule, unnamed-rule, used-first, pdsBelow, pd-rule, hasPd, isEc, ec-rule, sc-rule, pt-rule, null-place, live-place, shallow, rulesOfDamage, keeps, soundState}
 use Rattle.interface.proofs.Basics.BoolLaws.{and-left, and-right, both}
 use Rattle.interface.proofs.Basics.BelowLaws.{all-below-at, all-below}
 
@@ -130,3 +130,38 @@ facts-sound s k =
         ),
       ),
     )
+
+-- each of a list of tests holds of every number below one
+abbrev pub Below : ℕ → List (ℕ → Bool) → Type 0
+Below n [] = Unit {0}
+Below n (test ∷ tests) = (allBelow n test ≡ true) × Below n tests
+
+-- a state is sound where the tests of records hold of all records, and those of places of all places
+pub tested-sound : (s : State) →
+    Below records (fixed-record s ∷ interrupt-rule s ∷ unnamed-rule s ∷ used-first s ∷ pd-rule s ∷ ec-rule s ∷ sc-rule s ∷ pt-rule s ∷ []) →
+    Below places (fixed-place s ∷ null-place s ∷ live-place s ∷ shallow s ∷ []) → soundState s ≡ true
+tested-sound s (fixed, (interrupts, (unnamed, (used, (pd, (ec, (sc, (pt, _)))))))) (hypervisors, (null, (live, (flat, _)))) =
+    facts-sound s
+    (record {
+      fixed-records = all-below-at records (fixed-record s) fixed;
+      fixed-places = all-below-at places (fixed-place s) hypervisors;
+      interrupts = all-below-at records (interrupt-rule s) interrupts;
+      unnameds = all-below-at records (unnamed-rule s) unnamed;
+      used-firsts = all-below-at records (used-first s) used;
+      pds = all-below-at records (pd-rule s) pd;
+      ecs = all-below-at records (ec-rule s) ec;
+      scs = all-below-at records (sc-rule s) sc;
+      pts = all-below-at records (pt-rule s) pt;
+      nulls = all-below-at places (null-place s) null;
+      lives = all-below-at places (live-place s) live;
+      shallows = all-below-at places (shallow s) flat;
+    })
+
+-- to unfold this is to unfold what the rules of records, and all rules of damage, compute by
+unfoldable pub record-rules : Unit {0}
+unfolding fixed-record interrupt-rule unnamed-rule used-first pdsBelow pd-rule hasPd isEc ec-rule sc-rule pt-rule
+record-rules = tt
+
+unfoldable pub damage-rules : Unit {0}
+unfolding record-rules fixed-place null-place live-place shallow spaceOf allBelow anyBelow countBelow
+damage-rules = tt

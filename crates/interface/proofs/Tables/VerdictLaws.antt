@@ -57,6 +57,11 @@ rule-succeeds s c answer verdict e h =
     let by-rule = on-sound ∙ ap (called s c) e in
     by-rule ∙ succeeds (isEc s (c .caller)) BadCaller (verdict s c) answer (λ z. omega arith) (ap replyOf (sym by-rule) ∙ h)
 
+-- on a sound state the rules go on to the number and the caller
+pub sound-rules : (s : State) (c : Call) → soundState s ≡ true → rules s c ≡ called s c (hypercall (c .number))
+unfolding rules
+sound-rules s c h = rw h
+
 -- a call takes the steps of its verdict
 pub after-verdict : (s : State) (c : Call) (given : Verdict) → rules s c ≡ given → after s c ≡ run (effectsOf given) s
 unfolding after

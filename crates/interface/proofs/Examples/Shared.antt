@@ -1,0 +1,24 @@
+-- What the examples share: proofs of statements together, and the definitions that several of them compute by.
+use Rattle.words.specs.Sizes.{spaceOf}
+use Rattle.descriptor.specs.Descriptors.{wellFormed, wrapped, reading}
+use Rattle.interface.specs.Basics.{put, any}
+use Rattle.interface.specs.Effects.{chain, ancestors, below, fills, stripped, cutCaps, act, run}
+use Rattle.interface.specs.Rules.{hypercall, called}
+
+-- two proofs together
+infixr 3 _and_
+abbrev pub _and_ : {A B : Type 0} → A → B → A × B
+a and b = (a, b)
+
+-- to unfold one of these is to unfold what its line names: the reading of descriptors, what steps leave, and the order of a call's checks
+unfoldable pub descriptors : Unit {0}
+unfolding spaceOf wellFormed wrapped reading
+descriptors = tt
+
+unfoldable pub steps : Unit {0}
+unfolding put any chain ancestors below fills stripped cutCaps act run
+steps = tt
+
+unfoldable pub dispatch : Unit {0}
+unfolding hypercall called
+dispatch = tt
