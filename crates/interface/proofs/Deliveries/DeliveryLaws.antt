@@ -12,7 +12,6 @@ use lib.Dec.{eqb, ltb}
 use lib.ListN.{length, take, drop, take-append-drop}
 use lib.Seq.{take-all}
 use borrow.Author.Tests.{leb-true, eqb-true, eqb-false, eq-eqb, ne-eqb, ltb-true, lt-ltb, not-true}
-use Rattle.words.specs.Fields.{bits}
 use Rattle.words.specs.Sizes.{domains, greatestDepth, blockWords}
 use Rattle.descriptor.specs.declared.Range.{Range}
 use Rattle.descriptor.specs.declared.Match.{Match}
@@ -27,7 +26,7 @@ use Rattle.interface.specs.Damage.{soundState}
 use Rattle.interface.specs.RangeDescriptors.{reading, matched}
 use Rattle.interface.specs.Effects.{Effect, give, fills, handed, act, run, fillsOne, filled}
 use Rattle.interface.specs.Verdicts.{Call, CALL, deliver, require_else_then_, callerDomain, Verdict, replyOf}
-use Rattle.interface.specs.Message.{translateWindow, delegateWindow, delegateBit, payloadFits, descriptorAt, secondAt, Item, Moved, delegateItem, translateItem, sourceDomain, itemOf, carried, transfer}
+use Rattle.interface.specs.Message.{translateWindow, delegateWindow, payloadWords, untypedCount, itemWords, delegateBit, payloadFits, descriptorAt, secondAt, Item, Moved, delegateItem, translateItem, sourceDomain, itemOf, carried, transfer}
 use Rattle.interface.specs.PortalCalls.{portalCall}
 use Rattle.interface.specs.Rules.{hypercall, rules, after}
 use Rattle.interface.specs.Consequences.{calleeDomain}
@@ -303,7 +302,7 @@ module _ (s : State) (c : Call) where
 pub record CallGranted (s : State) (c : Call) (answer : ℕ) (block : List ℕ) : Type 0 where
   pub source-long : length (c .source) ≡ blockWords
   pub target-long : length (c .target) ≡ blockWords
-  pub payload-fits : bits 0 15 (word (c .source) 0) + 2 * itemCount c ≤ 60
+  pub payload-fits : untypedCount (word (c .source) 0) + itemWords * itemCount c ≤ payloadWords
   pub portal-permitted : permitted s (objectPlace (callerDomain s c) (c .first)) PT callBit ≡ true
   pub ends : after s c ≡ stateBefore s c (itemCount c)
   pub answers : answer ≡ movedBefore s c (itemCount c) .filled
@@ -337,7 +336,7 @@ call-granted s c answer effects block n h =
     record {
       source-long = eqb-true (length (c .source)) blockWords (and-left long-source long-target (blocks .0));
       target-long = eqb-true (length (c .target)) blockWords (and-right long-source long-target (blocks .0));
-      payload-fits = leb-true (bits 0 15 (word (c .source) 0) + 2 * itemCount c) 60 (on-payload .0);
+      payload-fits = leb-true (untypedCount (word (c .source) 0) + itemWords * itemCount c) payloadWords (on-payload .0);
       portal-permitted = on-portal .0;
       ends = rw same-effects at (after-verdict s c given h);
       answers = same-answer;

@@ -1,5 +1,5 @@
 -- What the receiver's block holds after CALL, word by word.
-use Prim.Native.Nat.{ℕ, zero, suc, _+_, _-_, _*_, _≤_, _<_, min}
+use Prim.Native.Nat.{ℕ, zero, suc, _+_, _-_, _*_, _/_, _≤_, _<_, min}
 use mathlib.Core.Path.{_≡_, refl, sym, ap, _∙_}
 use mathlib.Core.Bool.{true}
 use mathlib.Core.List.{List, [], _∷_, _++_}
@@ -19,7 +19,7 @@ use Rattle.interface.specs.Damage.{soundState}
 use Rattle.interface.specs.RangeDescriptors.{describe}
 use Rattle.interface.specs.Effects.{Effect, run, fillsOne, filled}
 use Rattle.interface.specs.Verdicts.{Call, callerDomain}
-use Rattle.interface.specs.Message.{headWords, untypedCount, descriptorAt, secondAt, delegateBit, receivedWord, Item, sourceDomain, delegateItem, untypedCopied, carried}
+use Rattle.interface.specs.Message.{headWords, payloadWords, untypedCount, itemWords, descriptorAt, secondAt, delegateBit, receivedWord, Item, sourceDomain, delegateItem, untypedCopied, carried}
 use Rattle.interface.specs.Consequences.{calleeDomain}
 use Rattle.interface.specs.Deliveries.{Due, untyped, itemCount, DelegatesTo, offsets, hotBase, sourceAt, destinationAt, before, DelegateShown, TranslateShown, WordsDelivered, DeliversWords}
 use Rattle.interface.proofs.Tables.TurnLaws.{filled-append}
@@ -68,8 +68,12 @@ module _ (step : ℕ → Effect) (s : State) where
       le-ind (λ (m : ℕ). filled (listed m step) s ≡ 0 → ⊥) (λ none. omega (arith, listed-next i))
       (λ m b ih none. ih (omega (arith, listed-next m))) n l
 
+-- as many items fill the payload
+abbrev mostItems : ℕ
+mostItems = payloadWords / itemWords
+
 -- The words of two items are four.
-module _ (item later : ℕ) (after-it : item < later) (few : later < 30) where
+module _ (item later : ℕ) (after-it : item < later) (few : later < mostItems) where
   descriptors-apart : descriptorAt item ≢ descriptorAt later
   descriptors-apart = omega arith
 
@@ -97,7 +101,7 @@ module _ (s : State) (c : Call) where
     block-long (suc n) = simp length-set (block-long n)
 
     -- the words below the items are as before them
-    block-below : (n number : ℕ) → number < blockWords - 2 * n → word (blockAfter n) number ≡ word copied number
+    block-below : (n number : ℕ) → number < blockWords - itemWords * n → word (blockAfter n) number ≡ word copied number
     unfolding carried
     block-below zero number l = refl
     block-below (suc n) number l =
@@ -106,14 +110,14 @@ module _ (s : State) (c : Call) where
         rw (getD-set-other, getD-set-other) (block-below n number (omega arith))
 
     -- an item's two words are set when it comes, and stay
-    block-item : (item n : ℕ) → item < n → n ≤ 30 →
+    block-item : (item n : ℕ) → item < n → n ≤ mostItems →
         (word (blockAfter n) (descriptorAt item) ≡ receivedWord (outcome s c item .received)) ×
         (word (blockAfter n) (secondAt item) ≡ delegateBit (word (c .source) (secondAt item)))
     unfolding carried
     block-item item n l few =
         le-ind
         (λ (m : ℕ).
-        m ≤ 30 →
+        m ≤ mostItems →
         (word (blockAfter m) (descriptorAt item) ≡ receivedWord (outcome s c item .received)) ×
         (word (blockAfter m) (secondAt item) ≡ delegateBit (word (c .source) (secondAt item))))
         (λ few-now.
@@ -127,7 +131,7 @@ module _ (s : State) (c : Call) where
           getD-set-same (set old (descriptorAt item) shown) (secondAt item) bit 0 in-first,
         ))
         (λ m b ih few-now.
-        let soon : m < 30 = few-now in
+        let soon : m < mostItems = few-now in
         let descriptors = descriptors-apart item m b soon in
         let descriptor-second = descriptor-off-second item m b soon in
         let second-descriptor = second-off-descriptor item m b soon in
@@ -210,7 +214,7 @@ module _ (s : State) (c : Call) where
 
 -- the words that are copied before the items
 module _ (source target : List ℕ) (source-long : length source ≡ blockWords) (target-long : length target ≡ blockWords)
-    (fits : untypedCount (word source 0) ≤ 60) where
+    (fits : untypedCount (word source 0) ≤ payloadWords) where
   abbrev headed : List ℕ
   headed = set target 0 (word source 0)
 
@@ -233,19 +237,19 @@ module _ (source target : List ℕ) (source-long : length source ≡ blockWords)
       paste-head headed (drop headWords source) headWords (untypedCount (word source 0)) room enough 0 (omega arith) ∙
       getD-set-same target 0 (word source 0) 0 (rw target-long (omega arith))
 
-  copied-head : (number : ℕ) → 1 ≤ number → number < 4 → word (untypedCopied source target) number ≡ word target number
+  copied-head : (number : ℕ) → 1 ≤ number → number < headWords → word (untypedCopied source target) number ≡ word target number
   unfolding untypedCopied
   copied-head number l b =
       let apart : number ≢ 0 = omega arith in
       paste-head headed (drop headWords source) headWords (untypedCount (word source 0)) room enough number b ∙
       getD-set-other target 0 number (word source 0) 0 apart
 
-  copied-untyped : (number : ℕ) → number < untypedCount (word source 0) → word (untypedCopied source target) (4 + number) ≡ word source (4 + number)
+  copied-untyped : (number : ℕ) → number < untypedCount (word source 0) → word (untypedCopied source target) (headWords + number) ≡ word source (headWords + number)
   unfolding untypedCopied
   copied-untyped number l =
       paste-middle headed (drop headWords source) headWords (untypedCount (word source 0)) room enough number l ∙ getD-drop headWords source number 0
 
-  copied-tail : (number : ℕ) → 4 + untypedCount (word source 0) ≤ number → word (untypedCopied source target) number ≡ word target number
+  copied-tail : (number : ℕ) → headWords + untypedCount (word source 0) ≤ number → word (untypedCopied source target) number ≡ word target number
   unfolding untypedCopied
   copied-tail number l =
       let apart : number ≢ 0 = omega arith in
@@ -254,16 +258,16 @@ module _ (source target : List ℕ) (source-long : length source ≡ blockWords)
 
 module _ (s : State) (c : Call) (answer : ℕ) (block : List ℕ) (granted : CallGranted s c answer block) (small : callerDomain s c < domains)
     (sound : (item : ℕ) → soundState (before s c item 0 .state) ≡ true) where
-  untyped-few : untyped c ≤ 60
+  untyped-few : untyped c ≤ payloadWords
   untyped-few = let payload = granted .payload-fits in omega arith
 
-  items-few : itemCount c ≤ 30
+  items-few : itemCount c ≤ mostItems
   items-few = let payload = granted .payload-fits in omega arith
 
   all-copied : length (untypedCopied (c .source) (c .target)) ≡ blockWords
   all-copied = copied-long (c .source) (c .target) (granted .source-long) (granted .target-long) untyped-few
 
-  below-items : (number : ℕ) → number < blockWords - 2 * itemCount c → word (movedBefore s c (itemCount c) .block) number ≡ word (untypedCopied (c .source) (c .target)) number
+  below-items : (number : ℕ) → number < blockWords - itemWords * itemCount c → word (movedBefore s c (itemCount c) .block) number ≡ word (untypedCopied (c .source) (c .target)) number
   below-items = block-below s c all-copied (itemCount c)
 
   words-delivered : WordsDelivered s c (movedBefore s c (itemCount c) .block)
@@ -276,7 +280,7 @@ module _ (s : State) (c : Call) (answer : ℕ) (block : List ℕ) (granted : Cal
         sixty-four = block-long s c all-copied (itemCount c);
         counts-taken = below-items 0 (omega arith) ∙ copied-first (c .source) (c .target) source-long target-long few;
         windows-kept = λ number l b. below-items number (omega arith) ∙ copied-head (c .source) (c .target) source-long target-long few number l (omega arith);
-        untyped-copied = λ number l. below-items (4 + number) (omega arith) ∙ copied-untyped (c .source) (c .target) source-long target-long few number l;
+        untyped-copied = λ number l. below-items (headWords + number) (omega arith) ∙ copied-untyped (c .source) (c .target) source-long target-long few number l;
         delegate-shown = λ item l bit. delegate-shown s c item _ bit (block-item s c all-copied item (itemCount c) l items-few .0);
         translate-shown = λ item l bit. translate-shown s c item _ small (sound item) bit (block-item s c all-copied item (itemCount c) l items-few .0);
         second-bit = λ item l. block-item s c all-copied item (itemCount c) l items-few .1;
