@@ -17,12 +17,15 @@ const SOURCE_START: usize = 2;
 
 const TARGET_START: usize = SOURCE_START + sizes::BLOCK_WORDS;
 
+// The bytes of a CALL's body, which its second block ends.
+const CALL_BYTES: usize = WORD_BYTES * (TARGET_START + sizes::BLOCK_WORDS);
+
 // How many bytes follow a kind byte: none for a kind that is none of these.
 pub fn body_bytes(kind: u8) -> usize
     ensures { λ r. ⌜ r ≡ bodyBytes kind ⌝ }
 {
     match kind as u32 {
-        numbers::CALL => 520,
+        numbers::CALL => CALL_BYTES,
         numbers::CREATE_PD => 16,
         numbers::CREATE_EC => 20,
         numbers::CREATE_SC => 20,

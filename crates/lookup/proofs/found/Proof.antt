@@ -96,7 +96,8 @@ largest-order-requires c κs =
 
 round-down-requires : tie.Need-round-down-requires
 round-down-requires c κs =
-    omega (arith, c .largest-order .ensures .1, greatest-is (c .before), greatest-small (c .before .before .before .before .before .before .before .before .before .before .before .before .args .range .space))
+    let start = c .before .before .before .before .before .before .before .before .before .before .before .before in
+    omega (arith, c .largest-order .ensures .1, greatest-is (c .before), greatest-small (start .args .range .space))
 
 wrapped-requires-2 : tie.Need-wrapped-requires-2
 wrapped-requires-2 c κs = search needs
