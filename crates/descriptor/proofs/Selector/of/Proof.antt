@@ -10,7 +10,7 @@ returns : tie.Need-returns
 returns c = sym (selected-object _ _ (c .if1 .taken))
 
 returns-2 : tie.Need-returns-2
-returns-2 c = sym (selected-outside _ _ (c .before .if1 .left) (rw (selectors-other _ (c .before .if1 .left)) (c .if2 .taken)))
+returns-2 c = sym (selected-outside _ _ (c .before .if1 .left) (rw (selectors-other _ (c .before .if1 .left)) (omega arith)))
 
 returns-3 : tie.Need-returns-3
 returns-3 c = sym (selected-inside _ _ (c .before .if1 .left) (rw (selectors-other _ (c .before .if1 .left)) (omega arith)))
