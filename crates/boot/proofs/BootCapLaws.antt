@@ -16,34 +16,35 @@ use Rattle.interface.specs.Basics.{word}
 use Rattle.interface.specs.Places.{Cap, nothing, parentless, free, PD, EC, SC, PT, SM, kindWord, greatestOf, greatest}
 use Rattle.interface.specs.Boot.{hypervisor, root, cpus, rootPd, rootEc, rootSc, rootObjects, exc, rootPriority, rootQuantum, noEc, bootRecord, bootObject, hypervisorCap, rootCap, bootCap}
 use Rattle.interface.proofs.Basics.BoolLaws.{cases, and-left, and-right}
-use Rattle.objects.specs.Records.{fiveWords}
+use Rattle.objects.specs.declared.Record.{Record}
+use Rattle.objects.specs.Records.{wordsOf}
 use Rattle.boot.specs.Held.{hypervisorObject, rootObject, heldCap}
-use Rattle.objects.proofs.RecordTableLaws.{short-words, two-words, four-words}
+use Rattle.objects.proofs.RecordTableLaws.{short-words}
 
 -- the records, by their numbers as the code reads it
 module _ (record-number number : ℕ) (is-number : number ≡ record-number) where
-  pub idle-words : number < cpus → word (fiveWords SC noEc 0 0 0) ≡ word (bootRecord record-number)
+  pub idle-words : number < cpus → word (SC ∷ noEc ∷ 0 ∷ 0 ∷ 0 ∷ []) ≡ word (bootRecord record-number)
   unfolding bootRecord
-  idle-words l = rw (← is-number, lt-ltb number cpus l) (two-words SC noEc)
+  idle-words l = rw (← is-number, lt-ltb number cpus l) (short-words (SC ∷ noEc ∷ []) 3)
 
   module _ (g : cpus ≤ number) where
-    pub interrupt-words : number < rootPd → word (fiveWords SM 0 0 0 0) ≡ word (bootRecord record-number)
+    pub interrupt-words : number < rootPd → word (SM ∷ 0 ∷ 0 ∷ 0 ∷ 0 ∷ []) ≡ word (bootRecord record-number)
     unfolding bootRecord
     interrupt-words l = rw (← is-number, le-ltb number cpus g, lt-ltb number rootPd l) (short-words (SM ∷ []) 4)
 
     module _ (h : rootPd ≤ number) where
-      pub pd-words : number ≡ rootPd → word (fiveWords PD root 0 0 0) ≡ word (bootRecord record-number)
+      pub pd-words : number ≡ rootPd → word (PD ∷ root ∷ 0 ∷ 0 ∷ 0 ∷ []) ≡ word (bootRecord record-number)
       unfolding bootRecord
-      pd-words e = rw (← is-number, le-ltb number cpus g, le-ltb number rootPd h, eq-eqb number rootPd e) (two-words PD root)
+      pd-words e = rw (← is-number, le-ltb number cpus g, le-ltb number rootPd h, eq-eqb number rootPd e) (short-words (PD ∷ root ∷ []) 3)
 
       module _ (p : number ≡ rootPd → ⊥) where
-        pub ec-words : number ≡ rootEc → word (fiveWords EC root 0 0 0) ≡ word (bootRecord record-number)
+        pub ec-words : number ≡ rootEc → word (EC ∷ root ∷ 0 ∷ 0 ∷ 0 ∷ []) ≡ word (bootRecord record-number)
         unfolding bootRecord
         ec-words e =
-            rw (← is-number, le-ltb number cpus g, le-ltb number rootPd h, ne-eqb number rootPd p, eq-eqb number rootEc e) (two-words EC root)
+            rw (← is-number, le-ltb number cpus g, le-ltb number rootPd h, ne-eqb number rootPd p, eq-eqb number rootEc e) (short-words (EC ∷ root ∷ []) 3)
 
         module _ (q : number ≡ rootEc → ⊥) where
-          pub sc-words : number ≡ rootSc → word (fiveWords SC rootEc rootPriority rootQuantum 0) ≡ word (bootRecord record-number)
+          pub sc-words : number ≡ rootSc → word (SC ∷ rootEc ∷ rootPriority ∷ rootQuantum ∷ 0 ∷ []) ≡ word (bootRecord record-number)
           unfolding bootRecord
           sc-words e =
               rw (
@@ -54,9 +55,9 @@ module _ (record-number number : ℕ) (is-number : number ≡ record-number) whe
                 ne-eqb number rootEc q,
                 eq-eqb number rootSc e,
               )
-              (four-words SC rootEc rootPriority rootQuantum)
+              (short-words (SC ∷ rootEc ∷ rootPriority ∷ rootQuantum ∷ []) 1)
 
-          pub free-words : (number ≡ rootSc → ⊥) → word (fiveWords free 0 0 0 0) ≡ word (bootRecord record-number)
+          pub free-words : (number ≡ rootSc → ⊥) → word (free ∷ 0 ∷ 0 ∷ 0 ∷ 0 ∷ []) ≡ word (bootRecord record-number)
           unfolding bootRecord
           free-words n =
               rw (
@@ -70,11 +71,10 @@ module _ (record-number number : ℕ) (is-number : number ≡ record-number) whe
               (short-words [] 5)
 
 -- the capability for a record
-pub object-cap : (record-number number kind first second third fourth most : ℕ) (cap : Cap) →
-    word (fiveWords kind first second third fourth) ≡ word (bootRecord record-number) → number ≡ record-number → most ≡ greatest object kind →
-    cap ≡ parentless number most → cap ≡ bootObject record-number
-object-cap record-number number kind first second third fourth most cap is-row is-number is-most is-cap =
-    let is-kind : kind ≡ word (bootRecord record-number) kindWord = ap (λ (row : ℕ → ℕ). row kindWord) is-row in
+pub object-cap : (record-number number most : ℕ) (words : Record) (cap : Cap) → word (wordsOf words) ≡ word (bootRecord record-number) →
+    number ≡ record-number → most ≡ greatest object (words .0) → cap ≡ parentless number most → cap ≡ bootObject record-number
+object-cap record-number number most words cap is-row is-number is-most is-cap =
+    let is-kind : words .0 ≡ word (bootRecord record-number) kindWord = ap (λ (row : ℕ → ℕ). row kindWord) is-row in
     is-cap ∙ (rw (is-most, is-number, is-kind))
 
 -- a selector that passes the code's test of the root's selectors is no lower than the first of them

@@ -18,7 +18,8 @@ use Rattle.interface.proofs.Basics.BoolLaws.{cases, and-left, and-right}
 use Rattle.interface.proofs.Basics.PutLaws.{put-same, put-other}
 use Rattle.places.specs.Table.{Sized as SizedPlaces}
 use Rattle.places.proofs.CapTableLaws.{length-cap-table, cap-at-table-below, cap-table-back, cap-table-same}
-use Rattle.objects.specs.Records.{Sized as SizedObjects, fiveWords}
+use Rattle.objects.specs.declared.Record.{Record}
+use Rattle.objects.specs.Records.{Sized as SizedObjects, wordsOf}
 use Rattle.objects.proofs.RecordTableLaws.{length-record-table, object-at-table, object-at-end, words-end, put-record-end, record-table-back, record-table-same}
 
 -- a place table whose places below a number hold what they do at boot
@@ -61,16 +62,14 @@ next-place number place cap table after below small is-place is-cap is-after =
           (put-below (capAt table) bootCap number cap (below .filled) (rw is-place at is-cap) p l);
     }
 
-pub next-record : (number object kind first second third fourth : ℕ) (table after : List ℕ) → RecordsBelow number table → number < records →
-    object ≡ number → word (fiveWords kind first second third fourth) ≡ word (bootRecord object) →
-    after ≡ recordTable (put (objectAt table) object (word (fiveWords kind first second third fourth))) → RecordsBelow (number + 1) after
-next-record number object kind first second third fourth table after below small is-object is-row is-after =
-    let row = word (fiveWords kind first second third fourth) in
+pub next-record : (number object : ℕ) (words : Record) (table after : List ℕ) → RecordsBelow number table → number < records → object ≡ number →
+    word (wordsOf words) ≡ word (bootRecord object) → after ≡ recordTable (put (objectAt table) object (word (wordsOf words))) →
+    RecordsBelow (number + 1) after
+next-record number object words table after below small is-object is-row is-after =
+    let row = word (wordsOf words) in
     let objects = put (objectAt table) number row in
     let stored : after ≡ recordTable objects = rw is-object at is-after in
-    let ends =
-    put-record-end (objectAt table) number row small (object-at-end table (below .size)) (words-end (fiveWords kind first second third fourth) (omega arith))
-    in
+    let ends = put-record-end (objectAt table) number row small (object-at-end table (below .size)) (words-end (wordsOf words) (omega arith)) in
     record {
       size = rw stored (length-record-table objects);
       filled =

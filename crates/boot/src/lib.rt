@@ -5,7 +5,7 @@ ghost use Rattle.interface.specs.Places.{nothing, sized, capTable, recordTable}
 ghost use Rattle.interface.specs.Boot.{bootRecord, bootObject, hypervisorCap, rootCap, bootCap};
 ghost use Rattle.interface.specs.Outcomes.{Booted};
 ghost use Rattle.places.specs.Table.{Sized as SizedPlaces};
-ghost use Rattle.objects.specs.Records.{Sized as SizedObjects, fiveWords};
+ghost use Rattle.objects.specs.Records.{Sized as SizedObjects, wordsOf};
 ghost use Rattle.boot.specs.Held.{hypervisorObject, rootObject, heldCap};
 use descriptor::Cap;
 use descriptor::FoundObject;
@@ -13,6 +13,7 @@ use descriptor::ObjectNumber;
 use descriptor::Place;
 use descriptor::Reply;
 use descriptor::Selector;
+use objects::Record;
 use words::sizes;
 
 // Each CPU has an idle SC and each interrupt a semaphore; the records of the root's PD, EC and SC follow them.
@@ -37,30 +38,27 @@ pub const ROOT_QUANTUM: u32 = 10000;
 // The EC word of an idle SC: no EC's number.
 pub const NO_EC: u32 = sizes::RECORDS;
 
-// The words of a record: its kind and four more.
-struct Words(u32, u32, u32, u32, u32);
-
 // The words of a record at boot.
-fn boot_record(object: ObjectNumber) -> Words
-    ensures { λ r. ⌜ word (fiveWords (r .0) (r .1) (r .2) (r .3) (r .4)) ≡ word (bootRecord (object .0)) ⌝ }
+fn boot_record(object: ObjectNumber) -> Record
+    ensures { λ r. ⌜ word (wordsOf r) ≡ word (bootRecord (object .0)) ⌝ }
 {
     let number = object.number();
     if number < objects::CPUS {
-        return Words(objects::SC, NO_EC, 0, 0, 0);
+        return Record(objects::SC, NO_EC, 0, 0, 0);
     }
     if number < ROOT_PD {
-        return Words(objects::SM, 0, 0, 0, 0);
+        return Record(objects::SM, 0, 0, 0, 0);
     }
     if number == ROOT_PD {
-        return Words(objects::PD, places::ROOT, 0, 0, 0);
+        return Record(objects::PD, places::ROOT, 0, 0, 0);
     }
     if number == ROOT_EC {
-        return Words(objects::EC, places::ROOT, 0, 0, 0);
+        return Record(objects::EC, places::ROOT, 0, 0, 0);
     }
     if number == ROOT_SC {
-        return Words(objects::SC, ROOT_EC, ROOT_PRIORITY, ROOT_QUANTUM, 0);
+        return Record(objects::SC, ROOT_EC, ROOT_PRIORITY, ROOT_QUANTUM, 0);
     }
-    Words(objects::FREE, 0, 0, 0, 0)
+    Record(objects::FREE, 0, 0, 0, 0)
 }
 
 // What a null place holds.
@@ -168,8 +166,7 @@ fn fill_objects(table: &mut [u32])
 {
     for number in 0..sizes::RECORDS {
         let object = ObjectNumber::counted(number);
-        let words = boot_record(object);
-        objects::make(table, object, words.0, words.1, words.2, words.3, words.4);
+        objects::make(table, object, boot_record(object));
     }
 }
 

@@ -35,5 +35,6 @@ pub fn is_permitted(places: &[u32], objects: &[u32], place: Place, kind: u32, bi
     ensures { λ r. ⌜ r ≡ permitted (view (now (places .entry)) (now (objects .entry))) (place .0) kind bit ⌝ }
 {
     let cap = places::load(places, place);
-    permissions::has(bit, cap.permissions) & (objects::kind_named(objects, cap.resource) == kind)
+    permissions::has(bit, cap.permissions)
+        & (objects::load_named(objects, cap.resource, objects::KIND) == kind)
 }

@@ -1,178 +1,100 @@
--- Each creation, refused or granted, runs its rule.
+-- Each creation runs its rule.
 use Prim.Native.Nat.{ℕ, _+_, _/_, _%_, _^_, _<_}
-use mathlib.Core.Path.{_≡_, refl, sym, _∙_}
+use mathlib.Core.Path.{_≡_, refl, ap, _∙_}
 use mathlib.Core.Bool.{Bool, true, not, _&&_}
-use mathlib.Core.List.{List, [], _∷_}
+use mathlib.Core.List.{List, [], _∷_, _++_}
 use native.Mathlib.Omega.{arith}
 use lib.Dec.{eqb, ltb}
-use borrow.Author.Tests.{ltb-true}
+use lib.ListN.{replicate}
 use Rattle.words.specs.Sizes.{domains, object, selectors, records}
-use Rattle.descriptor.specs.declared.ObjectNumber.{ObjectNumber}
 use Rattle.descriptor.specs.declared.Reading.{Reading}
+use Rattle.descriptor.specs.declared.Reading.the-variants.{Null}
 use Rattle.descriptor.specs.declared.Reply.{Reply}
-use Rattle.descriptor.specs.declared.Reply.the-variants.{Success}
 use Rattle.descriptor.specs.Descriptors.{reading}
 use Rattle.descriptor.specs.Descriptors.{kept as keptWord}
-use Rattle.descriptor.proofs.DescriptorLaws.{base-high, reading-kept, good-proper}
-use Rattle.interface.specs.Places.{Cap, State, PD, EC, SC, PT, SM, domainWord, bindScBit, bindPtBit, objectPlace, objectIn, permitted, capAt, objectAt, tables, view}
+use Rattle.descriptor.proofs.DescriptorLaws.{base-high, reading-kept}
+use Rattle.interface.specs.Basics.{word}
+use Rattle.interface.specs.Places.{Cap, State, Tables, PD, EC, SC, PT, SM, domainWord, bindScBit, bindPtBit, objectPlace, objectIn, permitted, capAt, objectAt, tables, view}
 use Rattle.interface.specs.Boot.{cpus}
 use Rattle.interface.specs.Damage.{pdsBelow}
-use Rattle.interface.specs.Effects.{Effect}
-use Rattle.interface.specs.Verdicts.{Call, callerDomain}
-use Rattle.interface.specs.Creations.{pdPlace, ecPlace, nextDomain, initialGood, initialGives, priority, quantum, createPd, createEc, createSc, createPt, createSm}
+use Rattle.interface.specs.Verdicts.{Call, Verdict}
+use Rattle.interface.specs.Creations.{creation, initialGood, priority, createPd, createEc, createSc, createPt, createSm}
 use Rattle.interface.specs.Rules.{Runs}
-use Rattle.objects.specs.Records.{recordsIn, fiveWords}
-use Rattle.objects.proofs.RecordTableLaws.{two-words, four-words}
-use Rattle.capabilities.specs.Callers.{Called}
-use Rattle.creating.specs.declared.Creation.{Creation}
-use Rattle.creating.specs.declared.Checked.{Checked}
-use Rattle.creating.specs.declared.Checked.the-variants.{Takes, Refused}
-use Rattle.creating.specs.Creating.{Decides, Created, Hands, Initial}
-use Rattle.creating.proofs.CreatingLaws.{hands-none, passes, Follows, follows-rule, refused, granted}
+use Rattle.objects.specs.Records.{recordsIn, wordsOf}
+use Rattle.objects.proofs.RecordTableLaws.{short-words}
+use Rattle.creation_rule.specs.declared.Creation.{Creation}
+use Rattle.creation_rule.specs.CreationRule.{ruleOf, Asks, Creates}
 
--- a creation with its tests as the code has them
-abbrev creationOf : (kind : ℕ) (bindable onCpu good left : Bool) → Creation
-creationOf kind bindable onCpu good left =
-    record { kind = kind; bindable = bindable; «cpu_good» = onCpu; «parameters_good» = good; «domain_left» = left }
-
--- the words of the new objects and the delegations of a new PD, by the call
-abbrev pdWords : State → List ℕ
-pdWords s = PD ∷ nextDomain s ∷ []
-
-abbrev pdGives : State → Call → List Effect
-pdGives s c = initialGives (callerDomain s c) (nextDomain s) (reading (c .third))
-
-abbrev ecWords : State → Call → List ℕ
-ecWords s c = EC ∷ s .objects (objectIn s (pdPlace s c)) domainWord ∷ c .third ∷ c .fourth % selectors object ∷ []
-
-abbrev scWords : State → Call → List ℕ
-scWords s c = SC ∷ objectIn s (ecPlace s c) ∷ priority (c .fourth) ∷ quantum (c .fourth) ∷ []
-
-abbrev ptWords : State → Call → List ℕ
-ptWords s c = PT ∷ objectIn s (ecPlace s c) ∷ c .fourth ∷ c .fifth ∷ c .sixth ∷ []
-
-abbrev smWords : Call → List ℕ
-smWords c = SM ∷ c .third ∷ []
+-- a creation with its object's words and its tests as the code has them
+abbrev creationOf : (kind first second third fourth : ℕ) (bindable onCpu good left : Bool) (initial : Reading) → Creation
+creationOf kind first second third fourth bindable onCpu good left initial =
+    record {
+      object = record { 0 = kind; 1 = first; 2 = second; 3 = third; 4 = fourth };
+      bindable = bindable;
+      «cpu_good» = onCpu;
+      «parameters_good» = good;
+      «domain_left» = left;
+      initial = initial;
+    }
 
 -- the low field of a QPD, as the code has it
 priority-low : (qpd : ℕ) → priority qpd ≡ qpd % 2 ^ 8
 priority-low qpd = omega arith
 
--- a new PD's initial range and domain are as its delegations want them
-module _ {places objects : List ℕ} {caller domain selector pd : ℕ} {found : Checked} {number : ObjectNumber} (called : Called places objects caller)
-    (in-domain : domain ≡ objectAt objects caller domainWord) (e : found ≡ Takes number) where
-  pub initial-fits : (kept : ℕ) {range : Reading} {good left : Bool} → range ≡ reading kept → good ≡ initialGood range →
-      Decides (view places objects) domain selector pd (creationOf PD true true good left) found → Initial range
-  initial-fits kept is-range is-good decides =
-      record { is-good = sym is-good ∙ passes called in-domain decides e .parameters; proper = λ r is. good-proper kept r (sym is-range ∙ is) }
-
-  pub next-domain-small : (next : ℕ) {good : Bool} → Decides (view places objects) domain selector pd (creationOf PD true true good (ltb next domains)) found →
-      next < domains
-  next-domain-small next decides = ltb-true next domains (passes called in-domain decides e .domain-left)
-
-module _ {places objects : List ℕ} {caller domain selector pd : ℕ} {found : Checked} (called : Called places objects caller)
-    (in-domain : domain ≡ objectAt objects caller domainWord) {c : Call} (is-caller : c .caller ≡ caller) (is-first : c .first ≡ selector)
+module _ {places objects : List ℕ} {after : Tables} {reply : Reply} {caller domain selector pd : ℕ} {c : Call}
+    (in-domain : domain ≡ objectAt objects caller domainWord) (is-caller : c .caller ≡ caller) (is-first : c .first ≡ selector)
     (is-second : c .second ≡ pd) where
-  -- CREATE_PD
-  module _ {initial kept count : ℕ} {range : Reading} {good : Bool} (is-third : c .third ≡ initial) (is-kept : kept ≡ keptWord initial)
-      (is-range : range ≡ reading kept) (is-good : good ≡ initialGood range) (is-count : count ≡ pdsBelow (recordsIn objects) records)
-      (decides : Decides (view places objects) domain selector pd (creationOf PD true true good (ltb (count + 1) domains)) found) where
-    pd-follows : Follows createPd c places objects domain selector found (pdWords (view places objects)) (pdGives (view places objects) c)
-    unfolding createPd pdsBelow
-    pd-follows =
-        follows-rule called in-domain is-caller is-first is-second decides (pdWords (view places objects)) (pdGives (view places objects) c)
-        (rw (is-third, is-good, is-range, is-kept, reading-kept initial, is-count))
+  -- a call whose rule is that of a creation runs it, where the object's words are the rule's and zeros after them
+  runs-rule : {verdict : State → Call → Verdict} {new : Creation} → Creates domain selector pd new (tables places objects) after reply →
+      (words : List ℕ) (zeros : ℕ) → wordsOf (new .object) ≡ words ++ replicate zeros 0 →
+      verdict (view places objects) c ≡ creation (view places objects) c (ruleOf domain new words) → Runs verdict c (tables places objects) after reply
+  runs-rule creates words zeros is-words is-rule =
+      let asks : Asks (view places objects) domain selector pd c =
+      record { in-domain = rw (is-caller, in-domain); is-first = is-first; is-second = is-second } in
+      let runs = creates .runs c words asks (ap word is-words ∙ short-words words zeros) in
+      record { replies = rw is-rule (runs .replies); leaves = rw is-rule (runs .leaves) }
 
-    pub pd-refused : {reply : Reply} → found ≡ Refused reply → Runs createPd c (tables places objects) (tables places objects) reply
-    pd-refused = refused pd-follows
+  pub pd-runs : {initial kept count : ℕ} {range : Reading} {good : Bool} → c .third ≡ initial → kept ≡ keptWord initial → range ≡ reading kept →
+      good ≡ initialGood range → count ≡ pdsBelow (recordsIn objects) records →
+      Creates domain selector pd (creationOf PD (count + 1) 0 0 0 true true good (ltb (count + 1) domains) range) (tables places objects) after reply →
+      Runs createPd c (tables places objects) after reply
+  unfolding createPd pdsBelow
+  pd-runs {initial} {count = count} is-third is-kept is-range is-good is-count creates =
+      runs-rule creates (PD ∷ (count + 1) ∷ []) 3 refl
+      (rw (is-third, is-caller, in-domain, is-good, is-range, is-kept, reading-kept initial, is-count))
 
-    pub pd-granted : {number : ObjectNumber} {between placesAfter objectsAfter : List ℕ} → found ≡ Takes number →
-        Hands (initialGives domain (count + 1) range) places between →
-        Created (tables between objects) (tables placesAfter objectsAfter) domain selector (number .0) (fiveWords PD (count + 1) 0 0 0) →
-        Runs createPd c (tables places objects) (tables placesAfter objectsAfter) (Success 0)
-    unfolding pdsBelow
-    pd-granted {between = between} e hands stored =
-        let from-caller : Hands (initialGives (objectAt objects caller domainWord) (pdsBelow (recordsIn objects) records + 1) (reading initial)) places between =
-        rw (is-range, is-kept, reading-kept initial, is-count, in-domain) at hands in
-        granted pd-follows e (rw (is-third, is-caller) from-caller) stored (rw is-count (two-words PD (pdsBelow (recordsIn objects) records + 1)))
+  pub ec-runs : {cpu base place home : ℕ} {cap : Cap} → c .third ≡ cpu → c .fourth ≡ base → place ≡ objectPlace domain pd → cap ≡ capAt places place →
+      home ≡ objectAt objects (cap .resource) domainWord →
+      Creates domain selector pd (creationOf EC home cpu (base % selectors object) 0 true (ltb cpu cpus) true true Null) (tables places objects) after reply →
+      Runs createEc c (tables places objects) after reply
+  unfolding createEc
+  ec-runs {cpu} {base} {home = home} is-third is-fourth is-place loaded is-home creates =
+      runs-rule creates (EC ∷ home ∷ cpu ∷ base % selectors object ∷ []) 1 refl
+      (rw (is-home, loaded, is-place, in-domain, is-caller, is-second, is-third, is-fourth))
 
-  -- CREATE_EC
-  module _ {cpu base : ℕ} (is-third : c .third ≡ cpu) (is-fourth : c .fourth ≡ base)
-      (decides : Decides (view places objects) domain selector pd (creationOf EC true (ltb cpu cpus) true true) found) where
-    ec-follows : Follows createEc c places objects domain selector found (ecWords (view places objects) c) []
-    unfolding createEc
-    ec-follows = follows-rule called in-domain is-caller is-first is-second decides (ecWords (view places objects) c) [] (rw is-third)
-
-    pub ec-refused : {reply : Reply} → found ≡ Refused reply → Runs createEc c (tables places objects) (tables places objects) reply
-    ec-refused = refused ec-follows
-
-    pub ec-granted : {number : ObjectNumber} {place named home : ℕ} {cap : Cap} {placesAfter objectsAfter : List ℕ} → found ≡ Takes number →
-        place ≡ objectPlace domain pd → cap ≡ capAt places place → named ≡ cap .resource → home ≡ objectAt objects named domainWord →
-        Created (tables places objects) (tables placesAfter objectsAfter) domain selector (number .0) (fiveWords EC home cpu (base % selectors object) 0) →
-        Runs createEc c (tables places objects) (tables placesAfter objectsAfter) (Success 0)
-    ec-granted e is-place loaded is-named is-home stored =
-        granted ec-follows e (hands-none places) stored
-        (rw (is-home, is-named, loaded, is-place, in-domain, sym is-caller, sym is-second, sym is-third, sym is-fourth)
-        (four-words EC (objectAt objects (objectIn (view places objects) (pdPlace (view places objects) c)) domainWord) (c .third)
-        (c .fourth % selectors object)))
-
-  -- CREATE_SC
-  module _ {ec qpd bound : ℕ} {may : Bool} (is-third : c .third ≡ ec) (is-fourth : c .fourth ≡ qpd) (fits : qpd < 2 ^ 32)
-      (is-bound : bound ≡ objectPlace domain ec) (is-may : may ≡ permitted (view places objects) bound EC bindScBit)
-      (decides :
-      Decides (view places objects) domain selector pd
-      (creationOf SC may true (not (eqb (qpd % 2 ^ 8) 0) && not (eqb (qpd / 2 ^ 12) 0)) true) found) where
-    sc-follows : Follows createSc c places objects domain selector found (scWords (view places objects) c) []
+  -- an SC or a PT, with the EC that it is bound to
+  module _ {ec number : ℕ} {may : Bool} (is-third : c .third ≡ ec) (is-number : number ≡ objectIn (view places objects) (objectPlace domain ec)) where
+    pub sc-runs : {qpd : ℕ} → c .fourth ≡ qpd → qpd < 2 ^ 32 → may ≡ permitted (view places objects) (objectPlace domain ec) EC bindScBit →
+        Creates domain selector pd
+        (creationOf SC number (qpd % 2 ^ 8) (qpd / 2 ^ 12) 0 may true (not (eqb (qpd % 2 ^ 8) 0) && not (eqb (qpd / 2 ^ 12) 0)) true Null)
+        (tables places objects) after reply →
+        Runs createSc c (tables places objects) after reply
     unfolding createSc
-    sc-follows =
-        follows-rule called in-domain is-caller is-first is-second decides (scWords (view places objects) c) []
-        (rw (is-may, is-bound, in-domain, sym is-caller, sym is-third, is-fourth, priority-low qpd, base-high qpd fits))
+    sc-runs {qpd} is-fourth fits is-may creates =
+        runs-rule creates (SC ∷ number ∷ qpd % 2 ^ 8 ∷ qpd / 2 ^ 12 ∷ []) 1 refl
+        (rw (is-may, is-number, in-domain, is-caller, is-third, is-fourth, priority-low qpd, base-high qpd fits))
 
-    pub sc-refused : {reply : Reply} → found ≡ Refused reply → Runs createSc c (tables places objects) (tables places objects) reply
-    sc-refused = refused sc-follows
-
-    pub sc-granted : {number : ObjectNumber} {cap : Cap} {ec-number : ℕ} {placesAfter objectsAfter : List ℕ} → found ≡ Takes number → cap ≡ capAt places bound →
-        ec-number ≡ cap .resource →
-        Created (tables places objects) (tables placesAfter objectsAfter) domain selector (number .0)
-        (fiveWords SC ec-number (qpd % 2 ^ 8) (qpd / 2 ^ 12) 0) →
-        Runs createSc c (tables places objects) (tables placesAfter objectsAfter) (Success 0)
-    sc-granted e loaded is-named stored =
-        granted sc-follows e (hands-none places) stored
-        (rw (is-named, loaded, is-bound, in-domain, sym is-caller, sym is-third, is-fourth, priority-low qpd, base-high qpd fits)
-        (four-words SC (objectIn (view places objects) (ecPlace (view places objects) c)) (qpd % 2 ^ 8) (qpd / 2 ^ 12)))
-
-  -- CREATE_PT
-  module _ {ec mtd ip identifier bound : ℕ} {may : Bool} (is-third : c .third ≡ ec) (is-fourth : c .fourth ≡ mtd) (is-fifth : c .fifth ≡ ip)
-      (is-sixth : c .sixth ≡ identifier) (is-bound : bound ≡ objectPlace domain ec) (is-may : may ≡ permitted (view places objects) bound EC bindPtBit)
-      (decides : Decides (view places objects) domain selector pd (creationOf PT may true true true) found) where
-    pt-follows : Follows createPt c places objects domain selector found (ptWords (view places objects) c) []
+    pub pt-runs : {mtd ip identifier : ℕ} → c .fourth ≡ mtd → c .fifth ≡ ip → c .sixth ≡ identifier →
+        may ≡ permitted (view places objects) (objectPlace domain ec) EC bindPtBit →
+        Creates domain selector pd (creationOf PT number mtd ip identifier may true true true Null) (tables places objects) after reply →
+        Runs createPt c (tables places objects) after reply
     unfolding createPt
-    pt-follows =
-        follows-rule called in-domain is-caller is-first is-second decides (ptWords (view places objects) c) []
-        (rw (is-may, is-bound, in-domain, sym is-caller, sym is-third))
+    pt-runs {mtd} {ip} {identifier} is-fourth is-fifth is-sixth is-may creates =
+        runs-rule creates (PT ∷ number ∷ mtd ∷ ip ∷ identifier ∷ []) 0 refl
+        (rw (is-may, is-number, in-domain, is-caller, is-third, is-fourth, is-fifth, is-sixth))
 
-    pub pt-refused : {reply : Reply} → found ≡ Refused reply → Runs createPt c (tables places objects) (tables places objects) reply
-    pt-refused = refused pt-follows
-
-    pub pt-granted : {number : ObjectNumber} {cap : Cap} {ec-number : ℕ} {placesAfter objectsAfter : List ℕ} → found ≡ Takes number → cap ≡ capAt places bound →
-        ec-number ≡ cap .resource →
-        Created (tables places objects) (tables placesAfter objectsAfter) domain selector (number .0) (fiveWords PT ec-number mtd ip identifier) →
-        Runs createPt c (tables places objects) (tables placesAfter objectsAfter) (Success 0)
-    pt-granted e loaded is-named stored =
-        granted pt-follows e (hands-none places) stored
-        (rw (is-named, loaded, is-bound, in-domain, sym is-caller, sym is-third, sym is-fourth, sym is-fifth, sym is-sixth))
-
-  -- CREATE_SM
-  module _ {count : ℕ} (is-third : c .third ≡ count)
-      (decides : Decides (view places objects) domain selector pd (creationOf SM true true true true) found) where
-    sm-follows : Follows createSm c places objects domain selector found (smWords c) []
-    unfolding createSm
-    sm-follows = follows-rule called in-domain is-caller is-first is-second decides (smWords c) [] refl
-
-    pub sm-refused : {reply : Reply} → found ≡ Refused reply → Runs createSm c (tables places objects) (tables places objects) reply
-    sm-refused = refused sm-follows
-
-    pub sm-granted : {number : ObjectNumber} {placesAfter objectsAfter : List ℕ} → found ≡ Takes number →
-        Created (tables places objects) (tables placesAfter objectsAfter) domain selector (number .0) (fiveWords SM count 0 0 0) →
-        Runs createSm c (tables places objects) (tables placesAfter objectsAfter) (Success 0)
-    sm-granted e stored = granted sm-follows e (hands-none places) stored (rw is-third (two-words SM count))
+  pub sm-runs : {count : ℕ} → c .third ≡ count →
+      Creates domain selector pd (creationOf SM count 0 0 0 true true true true Null) (tables places objects) after reply →
+      Runs createSm c (tables places objects) after reply
+  unfolding createSm
+  sm-runs {count} is-third creates = runs-rule creates (SM ∷ count ∷ []) 3 refl (rw is-third)

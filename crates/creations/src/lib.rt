@@ -1,21 +1,46 @@
 // The five CREATE calls, each on sound tables.
 ghost use mathlib.Core.Path.{_≡_};
-ghost use Rattle.interface.specs.Places.{tables};
+ghost use Prim.Native.Nat.{_<_};
+ghost use Rattle.words.specs.Sizes.{domains};
+ghost use Rattle.interface.specs.Places.{EC, objectPlace, objectIn, permitted, tables, view};
 ghost use Rattle.interface.specs.Verdicts.{Call};
 ghost use Rattle.interface.specs.Creations.{createPd, createEc, createSc, createPt, createSm};
 ghost use Rattle.interface.specs.Rules.{Runs};
+ghost use Rattle.places.specs.Table.{Sized as SizedPlaces};
+ghost use Rattle.objects.specs.Records.{Sized as SizedObjects};
 ghost use Rattle.capabilities.specs.Callers.{Called};
-use creating::Checked;
-use creating::Creation;
+use creation_rule::Creation;
 use descriptor::Descriptor;
 use descriptor::ObjectNumber;
+use descriptor::Reading;
 use descriptor::Reply;
+use objects::Record;
 use words::sizes;
 
 // The numbers of the bits that permit binding an SC and a PT to an EC.
 const BIND_SC: u32 = 1;
 
 const BIND_PT: u32 = 2;
+
+// The EC that an SC or a PT is bound to, and whether its capability permits that.
+struct Binding {
+    ec: u32,
+    permitted: bool,
+}
+
+// The binding to the EC that a selector of a domain names, by the bit that permits it.
+fn bind(places: &[u32], objects: &[u32], domain: u32, ec: u32, bit: u32) -> Binding
+    requires { ⌜ SizedPlaces (now places) × SizedObjects (now objects) × (domain < domains) × (bit < 32) ⌝ }
+    ensures { λ r. ⌜
+        (r .ec ≡ objectIn (view (now (places .entry)) (now (objects .entry))) (objectPlace domain ec)) ×
+        (r .permitted ≡ permitted (view (now (places .entry)) (now (objects .entry))) (objectPlace domain ec) EC bit) ⌝ }
+{
+    let place = capabilities::object_place(domain, ec);
+    Binding {
+        ec: places::load(places, place).resource,
+        permitted: capabilities::is_permitted(places, objects, place, objects::EC, bit),
+    }
+}
 
 // CREATE_PD: a PD of the next domain, to which the initial range is delegated before the new place is filled.
 pub fn create_pd(
@@ -35,31 +60,14 @@ pub fn create_pd(
     let range = Descriptor::from_word(initial).read();
     let next = objects::count_pds(objects) + 1;
     let new = Creation {
-        kind: objects::PD,
+        object: Record(objects::PD, next, 0, 0, 0),
         bindable: true,
         cpu_good: true,
-        parameters_good: creating::is_initial(range),
+        parameters_good: creation_rule::is_initial(range),
         domain_left: next < sizes::DOMAINS,
+        initial: range,
     };
-    match creating::check(places, objects, domain, selector, pd, new) {
-        Checked::Refused(reply) => reply,
-        Checked::Takes(number) => {
-            creating::give_initial(places, domain, next, range);
-            creating::create(
-                places,
-                objects,
-                domain,
-                selector,
-                number,
-                objects::PD,
-                next,
-                0,
-                0,
-                0,
-            );
-            Reply::Success(0)
-        }
-    }
+    creation_rule::create(places, objects, domain, selector, pd, new)
 }
 
 // CREATE_EC: an EC of the named PD's domain, with a CPU and an event base that wraps.
@@ -78,36 +86,19 @@ pub fn create_ec(
         Runs createEc c (tables (now (places .entry)) (now (objects .entry))) (tables (now (places .exit)) (now (objects .exit))) r) ⌝ }
 {
     let domain = capabilities::domain(places, objects, caller);
+    // Where the selector names no PD the checks refuse the call, whatever word is read.
+    let named = places::load(places, capabilities::object_place(domain, pd)).resource;
+    let home = objects::load_named(objects, named, objects::DOMAIN);
+    let wrapped = event_base % sizes::OBJECT_SELECTORS;
     let new = Creation {
-        kind: objects::EC,
+        object: Record(objects::EC, home, cpu, wrapped, 0),
         bindable: true,
         cpu_good: cpu < objects::CPUS,
         parameters_good: true,
         domain_left: true,
+        initial: Reading::Null,
     };
-    match creating::check(places, objects, domain, selector, pd, new) {
-        Checked::Refused(reply) => reply,
-        Checked::Takes(number) => {
-            let named = ObjectNumber::named_by(places::load(
-                places,
-                capabilities::object_place(domain, pd),
-            ));
-            let home = objects::load(objects, named, objects::DOMAIN);
-            creating::create(
-                places,
-                objects,
-                domain,
-                selector,
-                number,
-                objects::EC,
-                home,
-                cpu,
-                event_base % sizes::OBJECT_SELECTORS,
-                0,
-            );
-            Reply::Success(0)
-        }
-    }
+    creation_rule::create(places, objects, domain, selector, pd, new)
 }
 
 // CREATE_SC: an SC bound to the named EC, with the priority in the QPD's bits 0 to 7 and the quantum from bit 12 on.
@@ -126,35 +117,18 @@ pub fn create_sc(
         Runs createSc c (tables (now (places .entry)) (now (objects .entry))) (tables (now (places .exit)) (now (objects .exit))) r) ⌝ }
 {
     let domain = capabilities::domain(places, objects, caller);
-    let bound = capabilities::object_place(domain, ec);
+    let bound = bind(places, objects, domain, ec, BIND_SC);
     let priority = qpd % 256;
     let quantum = qpd >> 12;
     let new = Creation {
-        kind: objects::SC,
-        bindable: capabilities::is_permitted(places, objects, bound, objects::EC, BIND_SC),
+        object: Record(objects::SC, bound.ec, priority, quantum, 0),
+        bindable: bound.permitted,
         cpu_good: true,
         parameters_good: (priority != 0) & (quantum != 0),
         domain_left: true,
+        initial: Reading::Null,
     };
-    match creating::check(places, objects, domain, selector, pd, new) {
-        Checked::Refused(reply) => reply,
-        Checked::Takes(number) => {
-            let named = ObjectNumber::named_by(places::load(places, bound));
-            creating::create(
-                places,
-                objects,
-                domain,
-                selector,
-                number,
-                objects::SC,
-                named.number(),
-                priority,
-                quantum,
-                0,
-            );
-            Reply::Success(0)
-        }
-    }
+    creation_rule::create(places, objects, domain, selector, pd, new)
 }
 
 // CREATE_PT: a PT bound to the named EC, with an MTD, an entry IP and an identifier.
@@ -175,33 +149,16 @@ pub fn create_pt(
         Runs createPt c (tables (now (places .entry)) (now (objects .entry))) (tables (now (places .exit)) (now (objects .exit))) r) ⌝ }
 {
     let domain = capabilities::domain(places, objects, caller);
-    let bound = capabilities::object_place(domain, ec);
+    let bound = bind(places, objects, domain, ec, BIND_PT);
     let new = Creation {
-        kind: objects::PT,
-        bindable: capabilities::is_permitted(places, objects, bound, objects::EC, BIND_PT),
+        object: Record(objects::PT, bound.ec, mtd, ip, identifier),
+        bindable: bound.permitted,
         cpu_good: true,
         parameters_good: true,
         domain_left: true,
+        initial: Reading::Null,
     };
-    match creating::check(places, objects, domain, selector, pd, new) {
-        Checked::Refused(reply) => reply,
-        Checked::Takes(number) => {
-            let named = ObjectNumber::named_by(places::load(places, bound));
-            creating::create(
-                places,
-                objects,
-                domain,
-                selector,
-                number,
-                objects::PT,
-                named.number(),
-                mtd,
-                ip,
-                identifier,
-            );
-            Reply::Success(0)
-        }
-    }
+    creation_rule::create(places, objects, domain, selector, pd, new)
 }
 
 // CREATE_SM: a semaphore with a count.
@@ -220,28 +177,12 @@ pub fn create_sm(
 {
     let domain = capabilities::domain(places, objects, caller);
     let new = Creation {
-        kind: objects::SM,
+        object: Record(objects::SM, count, 0, 0, 0),
         bindable: true,
         cpu_good: true,
         parameters_good: true,
         domain_left: true,
+        initial: Reading::Null,
     };
-    match creating::check(places, objects, domain, selector, pd, new) {
-        Checked::Refused(reply) => reply,
-        Checked::Takes(number) => {
-            creating::create(
-                places,
-                objects,
-                domain,
-                selector,
-                number,
-                objects::SM,
-                count,
-                0,
-                0,
-                0,
-            );
-            Reply::Success(0)
-        }
-    }
+    creation_rule::create(places, objects, domain, selector, pd, new)
 }

@@ -11,13 +11,12 @@ use lib.Seq.{ext-getD, getD-set-same, getD-set-other}
 use borrow.Author.Tests.{eqb-true, eqb-false, ltb-true, ltb-false, ne-eqb, lt-ltb, le-ltb}
 use Rattle.words.specs.Sizes.{records, recordWords}
 use Rattle.interface.specs.Basics.{word, put, if_then_else_}
-use Rattle.interface.specs.Places.{State, nothing, kindWord, countWord, objectTableWords, objectAt, recordTable, Cap}
+use Rattle.interface.specs.Places.{State, nothing, kindWord, objectTableWords, objectAt, recordTable}
 use Rattle.interface.proofs.Basics.BoolLaws.{cases, either-way}
 use Rattle.interface.proofs.Basics.PutLaws.{put-same, put-other}
 use Rattle.interface.proofs.Tables.TableLaws.{length-listed, word-listed, shown-tables}
-use Rattle.objects.specs.Records.{Sized, fiveWords, storedWord}
-use Rattle.interface.specs.Creations.{freeRecord}
-use Rattle.interface.specs.Damage.{pdsBelow}
+use Rattle.objects.specs.declared.Record.{Record}
+use Rattle.objects.specs.Records.{Sized, wordsOf, storedWord}
 
 -- records end where the object table does
 pub record RecordsEnd (objects : ℕ → ℕ → ℕ) : Type 0 where
@@ -252,14 +251,15 @@ module _ (before : List ℕ) (number : ℕ) (size : Sized before) where
       ap (λ (row : ℕ → ℕ). recordTable (put (objectAt before) number row)) (put-next words value))
 
   -- the stores of a new object's words in turn
-  pub made : (kind first second third fourth : ℕ) {none one two three four five : List ℕ} → number < records →
-      none ≡ recordTable (put (objectAt before) number (word [])) → one ≡ storedWord none number kindWord kind → two ≡ storedWord one number 1 first →
-      three ≡ storedWord two number 2 second → four ≡ storedWord three number 3 third → five ≡ storedWord four number 4 fourth →
-      five ≡ recordTable (put (objectAt before) number (word (fiveWords kind first second third fourth)))
-  made kind first second third fourth l e a b c d f =
-      next-word (kind ∷ first ∷ second ∷ third ∷ []) fourth l (omega arith)
-      (next-word (kind ∷ first ∷ second ∷ []) third l (omega arith)
-      (next-word (kind ∷ first ∷ []) second l (omega arith) (next-word (kind ∷ []) first l (omega arith) (next-word [] kind l (omega arith) e a) b) c) d) f
+  pub made : (words : Record) {none one two three four five : List ℕ} → number < records →
+      none ≡ recordTable (put (objectAt before) number (word [])) → one ≡ storedWord none number kindWord (words .0) →
+      two ≡ storedWord one number 1 (words .1) → three ≡ storedWord two number 2 (words .2) → four ≡ storedWord three number 3 (words .3) →
+      five ≡ storedWord four number 4 (words .4) → five ≡ recordTable (put (objectAt before) number (word (wordsOf words)))
+  made words l e a b c d f =
+      next-word (words .0 ∷ words .1 ∷ words .2 ∷ words .3 ∷ []) (words .4) l (omega arith)
+      (next-word (words .0 ∷ words .1 ∷ words .2 ∷ []) (words .3) l (omega arith)
+      (next-word (words .0 ∷ words .1 ∷ []) (words .2) l (omega arith)
+      (next-word (words .0 ∷ []) (words .1) l (omega arith) (next-word [] (words .0) l (omega arith) e a) b) c) d) f
 
 -- zeros after a list of words change none of them
 pub short-words : (words : List ℕ) (zeros : ℕ) → word (words ++ replicate zeros 0) ≡ word words
@@ -271,9 +271,3 @@ short-words words zeros = fun-ext (go words zeros)
     go [] (suc zeros) (suc i) = go [] zeros i
     go (first ∷ words) zeros zero = refl
     go (first ∷ words) zeros (suc i) = go words zeros i
-
-pub two-words : (kind first : ℕ) → word (fiveWords kind first 0 0 0) ≡ word (kind ∷ first ∷ [])
-two-words kind first = short-words (kind ∷ first ∷ []) 3
-
-pub four-words : (kind first second third : ℕ) → word (fiveWords kind first second third 0) ≡ word (kind ∷ first ∷ second ∷ third ∷ [])
-four-words kind first second third = short-words (kind ∷ first ∷ second ∷ third ∷ []) 1

@@ -5,6 +5,7 @@ use mathlib.Core.List.{List, [], _∷_}
 use lib.ListN.{length}
 use Rattle.interface.specs.Basics.{put}
 use Rattle.interface.specs.Places.{State, nothing, objectTableWords, objectAt, recordTable}
+use Rattle.objects.specs.declared.Record.{Record}
 
 -- a list that has the object table's length
 abbrev pub Sized : List ℕ → Type 0
@@ -18,6 +19,6 @@ recordsIn table = record { caps = λ p. nothing; objects = objectAt table }
 abbrev pub storedWord : List ℕ → ℕ → ℕ → ℕ → List ℕ
 storedWord table number index value = recordTable (put (objectAt table) number (put (objectAt table number) index value))
 
--- the words of a new object: its kind and the four words after it; those after the list are 0
-abbrev pub fiveWords : ℕ → ℕ → ℕ → ℕ → ℕ → List ℕ
-fiveWords kind first second third fourth = kind ∷ first ∷ second ∷ third ∷ fourth ∷ []
+-- the words of a record, the kind first
+abbrev pub wordsOf : Record → List ℕ
+wordsOf words = words .0 ∷ words .1 ∷ words .2 ∷ words .3 ∷ words .4 ∷ []

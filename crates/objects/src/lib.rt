@@ -5,10 +5,10 @@ ghost use Prim.Native.Nat.{_<_};
 ghost use Rattle.words.specs.Sizes.{records, recordWords};
 ghost use Rattle.descriptor.specs.Numbers.{numbered};
 ghost use Rattle.interface.specs.Basics.{word, put};
-ghost use Rattle.interface.specs.Places.{kindWord, countWord, greatestOf, greatest, objectAt, recordTable, namedWords};
+ghost use Rattle.interface.specs.Places.{countWord, greatestOf, greatest, objectAt, recordTable, namedWords};
 ghost use Rattle.interface.specs.Damage.{pdsBelow};
 ghost use Rattle.interface.specs.Creations.{freeRecord};
-ghost use Rattle.objects.specs.Records.{Sized, recordsIn, fiveWords, storedWord};
+ghost use Rattle.objects.specs.Records.{Sized, recordsIn, wordsOf, storedWord};
 use descriptor::FoundObject;
 use descriptor::ObjectNumber;
 use words::sizes;
@@ -48,6 +48,9 @@ pub const QUANTUM: usize = 3;
 pub const IDENTIFIER: usize = 4;
 
 pub const COUNT: usize = 1;
+
+// The words of a record, in its order: the kind, and those that objects of the kind have, with 0 after them.
+pub struct Record(pub u32, pub u32, pub u32, pub u32, pub u32);
 
 // The greatest permissions of an object of a kind.
 pub fn greatest_of(kind: u32) -> u32
@@ -98,15 +101,15 @@ pub fn load(table: &[u32], number: ObjectNumber, index: usize) -> u32
     table[number.words_start() + index]
 }
 
-// The kind of the object that a capability's resource names, or 0 for a resource past the records.
-pub fn kind_named(table: &[u32], resource: u32) -> u32
-    requires { ⌜ Sized (now table) ⌝ }
-    ensures { λ r. ⌜ r ≡ objectAt (now (table .entry)) resource kindWord ⌝ }
+// A word of the record that a capability's resource names, or 0 for a resource past the records.
+pub fn load_named(table: &[u32], resource: u32, index: usize) -> u32
+    requires { ⌜ Sized (now table) × (index < recordWords) ⌝ }
+    ensures { λ r. ⌜ r ≡ objectAt (now (table .entry)) resource index ⌝ }
 {
     let FoundObject::Numbered(number) = ObjectNumber::found(resource) else {
         return 0;
     };
-    load(table, number, KIND)
+    load(table, number, index)
 }
 
 // Stores a word of a record.
@@ -128,25 +131,17 @@ fn clear(table: &mut [u32], number: ObjectNumber)
     }
 }
 
-// Stores the words of a new object: its kind and the four words after it, and 0 in the others.
-pub fn make(
-    table: &mut [u32],
-    number: ObjectNumber,
-    kind: u32,
-    first: u32,
-    second: u32,
-    third: u32,
-    fourth: u32,
-)
+// Stores the words of a new object, and 0 in the others of its record.
+pub fn make(table: &mut [u32], number: ObjectNumber, words: Record)
     requires { ⌜ Sized (now table) × (number .0 < records) ⌝ }
-    ensures { λ r. ⌜ now (table .exit) ≡ recordTable (put (objectAt (now (table .entry))) (number .0) (word (fiveWords kind first second third fourth))) ⌝ }
+    ensures { λ r. ⌜ now (table .exit) ≡ recordTable (put (objectAt (now (table .entry))) (number .0) (word (wordsOf words))) ⌝ }
 {
     clear(table, number);
-    set(table, number, KIND, kind);
-    set(table, number, 1, first);
-    set(table, number, 2, second);
-    set(table, number, 3, third);
-    set(table, number, 4, fourth);
+    set(table, number, KIND, words.0);
+    set(table, number, 1, words.1);
+    set(table, number, 2, words.2);
+    set(table, number, 3, words.3);
+    set(table, number, 4, words.4);
 }
 
 // Stores a semaphore's count.

@@ -9,11 +9,11 @@ load-requires c κs = search needs
 has-requires : tie.Need-has-requires
 has-requires c κs = search needs
 
-kind-named-requires : tie.Need-kind-named-requires
-kind-named-requires c κs = search needs
+load-named-requires : tie.Need-load-named-requires
+load-named-requires c κs = search needs
 
 returns : tie.Need-returns
-returns c = rw (c .before .has .ensures, c .kind-named .ensures, c .before .before .load .ensures)
+returns c = rw (c .before .has .ensures, c .load-named .ensures, c .before .before .load .ensures)
 
 pub is-permitted-spec : {M : Type 1} → statement M
-is-permitted-spec = tie.close (tie.spec load-requires has-requires kind-named-requires returns)
+is-permitted-spec = tie.close (tie.spec load-requires has-requires load-named-requires returns)

@@ -34,7 +34,7 @@ returns c =
     let first = second .before .before .before .before in
     let none = first .before .before .before .before in
     let given = none .before .before .before in
-    made _ _ (given .pre .0) _ _ _ _ _ (given .pre .1) (none .clear .ensures) (first .set .ensures) (second .set2 .ensures) (third .set3 .ensures) (fourth .set4 .ensures)
+    made _ _ (given .pre .0) _ (given .pre .1) (none .clear .ensures) (first .set .ensures) (second .set2 .ensures) (third .set3 .ensures) (fourth .set4 .ensures)
     (fifth .set5 .ensures)
 
 pub make-spec : {M : Type 1} → statement M

@@ -1,7 +1,7 @@
 -- The arms tell the reading's variant, and a range its space.
 use borrow.Author.Needs.{needs}
-use Rattle.creating.proofs.is_initial.Statement.{statement}
-use Rattle.creating.proofs.is_initial.Tie as tie
+use Rattle.creation_rule.proofs.is_initial.Statement.{statement}
+use Rattle.creation_rule.proofs.is_initial.Tie as tie
 
 enum-told : tie.Need-enum-told
 enum-told c = search needs

@@ -8,11 +8,10 @@ use Rattle.descriptor.proofs.DescriptorLaws.{proper-order}
 use Rattle.interface.specs.Basics.{listed}
 use Rattle.interface.specs.Creations.{handOn}
 use Rattle.places.specs.Table.{Sized}
-use Rattle.creating.specs.Creating.{Hands}
-use Rattle.creating.proofs.CreatingLaws.{hands-none}
-use Rattle.creating.proofs.InitialLaws.{hands-more}
-use Rattle.creating.proofs.hand_on.Statement.{statement}
-use Rattle.creating.proofs.hand_on.Tie as tie
+use Rattle.creation_rule.specs.CreationRule.{Hands}
+use Rattle.creation_rule.proofs.InitialLaws.{hands-none, hands-more}
+use Rattle.creation_rule.proofs.hand_on.Statement.{statement}
+use Rattle.creation_rule.proofs.hand_on.Tie as tie
 
 abbrev Inv-loop : tie.InvT-loop
 Inv-loop table₀ from to range size offset₀ table offset =

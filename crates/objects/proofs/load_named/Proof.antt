@@ -1,13 +1,13 @@
--- The kind is the first word of the record that the resource names, and there is none past the records.
-use mathlib.Core.Path.{_≡_, sym, ap, _∙_}
+-- The word is that of the record that the resource names, and there is none past the records.
+use mathlib.Core.Path.{sym, ap, _∙_}
 use native.Mathlib.Omega.{arith}
 use denote.Ref.{now}
 use borrow.Author.Needs.{needs}
 use Rattle.descriptor.proofs.DescriptorLaws.{numbered-inside, numbered-past}
-use Rattle.interface.specs.Places.{kindWord, objectAt}
+use Rattle.interface.specs.Places.{objectAt}
 use Rattle.objects.proofs.RecordTableLaws.{object-at-end}
-use Rattle.objects.proofs.kind_named.Statement.{statement}
-use Rattle.objects.proofs.kind_named.Tie as tie
+use Rattle.objects.proofs.load_named.Statement.{statement}
+use Rattle.objects.proofs.load_named.Tie as tie
 
 found-requires : tie.Need-found-requires
 found-requires c κs = search needs
@@ -26,15 +26,15 @@ returns c =
 load-requires : tie.Need-load-requires
 load-requires c κs =
     let inside = numbered-inside _ _ (sym (c .before .before .before .found .ensures) ∙ c .before .number .given .1) in
-    (c .before .before .before .before .before .pre, omega arith, omega arith)
+    (c .before .before .before .before .before .pre .0, omega arith, omega arith)
 
 returns-2 : tie.Need-returns-2
 returns-2 c =
     let given = c .before .before .before .before .before .before .args in
     let inside = numbered-inside _ _ (sym (c .before .before .before .before .found .ensures) ∙ c .before .before .number .given .1) in
-    c .load .ensures ∙ ap (λ (number : _). objectAt (now (given .table)) number kindWord) (inside .0)
+    c .load .ensures ∙ ap (λ (number : _). objectAt (now (given .table)) number (given .index)) (inside .0)
 
-pub kind-named-spec : {M : Type 1} → statement M
-kind-named-spec =
+pub load-named-spec : {M : Type 1} → statement M
+load-named-spec =
     tie.close
     (tie.spec found-requires enum-known-number enum-told returns load-requires returns-2)

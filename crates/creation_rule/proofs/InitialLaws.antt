@@ -1,31 +1,36 @@
 -- The initial range of a new PD: one more of its delegations, and the number of the domain that it goes to.
 use Prim.Native.Nat.{ℕ, zero, suc, _+_, _≤_, _<_}
-use mathlib.Core.Path.{_≡_, ap, _∙_}
-use mathlib.Core.Bool.{Bool}
-use mathlib.Core.List.{List}
+use mathlib.Core.Path.{_≡_, refl, sym, ap, _∙_}
+use mathlib.Core.Bool.{Bool, true}
+use mathlib.Core.List.{List, []}
 use native.Mathlib.Numerals.{add-one}
 use native.Mathlib.Omega.{arith}
-use lib.Dec.{eqb}
+use lib.Dec.{eqb, ltb}
 use mir.Syntax.{w32}
 use mir.Val.{Fits}
-use borrow.Author.Tests.{eqb-true}
-use Rattle.words.specs.Sizes.{object, placeOf, records}
+use borrow.Author.Tests.{eqb-true, ltb-true}
+use Rattle.words.specs.Sizes.{domains, object, placeOf, records}
 use Rattle.words.specs.Sizes.{places as placeCount}
-use Rattle.descriptor.specs.declared.Range.{Range}
 use Rattle.descriptor.specs.declared.Reading.{Reading}
-use Rattle.descriptor.specs.declared.Reading.the-variants.{Good}
-use Rattle.descriptor.specs.Descriptors.{Proper}
+use Rattle.descriptor.specs.declared.Reading.the-variants.{Null, Malformed, Good}
+use Rattle.descriptor.specs.Descriptors.{reading}
+use Rattle.descriptor.proofs.DescriptorLaws.{good-proper}
 use Rattle.interface.specs.Basics.{listed, countBelow}
 use Rattle.interface.specs.Places.{PD, kindWord, capAt, objectAt, capTable}
 use Rattle.interface.specs.Damage.{pdsBelow}
 use Rattle.interface.specs.Effects.{givenCaps, act, run}
-use Rattle.interface.specs.Creations.{handOn}
+use Rattle.interface.specs.Creations.{initialGood, handOn}
 use Rattle.interface.proofs.Basics.BoolLaws.{either-way}
 use Rattle.interface.proofs.Tables.TurnLaws.{run-append}
 use Rattle.places.specs.Table.{Sized, Given}
 use Rattle.places.proofs.CapTableLaws.{cap-at-table, cap-at-end, given-end}
 use Rattle.objects.specs.Records.{recordsIn}
-use Rattle.creating.specs.Creating.{Hands, Initial}
+use Rattle.creation_rule.specs.CreationRule.{Hands, Handed}
+
+-- no delegations leave a table
+pub hands-none : (table : List ℕ) → Hands [] table table
+unfolding run
+hands-none table = record { turns = λ objects. refl }
 
 -- one more place is handed on by a delegation
 pub hands-more : (from to base mask offset : ℕ) {before table after : List ℕ} {destination source selector masked : ℕ} {filled : Bool} → Sized table →
@@ -45,13 +50,13 @@ hands-more from to base mask offset {before} {table} {after} {destination} {sour
           (rw (run-append (handOn from to base offset mask), hands .turns, shows, is-destination, is-source, is-selector));
     }
 
--- an initial range is a proper one of objects
-module _ {initial : Reading} {range : Range} (fits : Initial initial) (is : initial ≡ Good range) where
-  pub initial-proper : Proper range
-  initial-proper = fits .proper range is
-
-  pub initial-object : range .space ≡ object
-  initial-object = eqb-true (range .space) object (rw is at (fits .is-good))
+-- the initial descriptor of a word can be handed on to a domain, where both pass their tests
+pub initial-handed : (word to : ℕ) (initial : Reading) {good : Bool} → initial ≡ reading word → good ≡ initialGood initial → good ≡ true →
+    ltb to domains ≡ true → Handed to initial
+initial-handed word to Null is is-good t left = tt
+initial-handed word to Malformed is is-good t left = tt
+initial-handed word to (Good range) is is-good t left =
+    (good-proper word range (sym is), eqb-true (range .space) object (sym is-good ∙ t), ltb-true to domains left)
 
 -- no more numbers below one pass a test than there are, so the next domain's number is a word
 count-small : (n : ℕ) (test : ℕ → Bool) → countBelow n test ≤ n

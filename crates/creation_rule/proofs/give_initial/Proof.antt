@@ -1,9 +1,8 @@
 -- A null or malformed descriptor hands on nothing, and any other its range.
 use borrow.Author.Needs.{needs}
-use Rattle.creating.proofs.CreatingLaws.{hands-none}
-use Rattle.creating.proofs.InitialLaws.{initial-proper, initial-object}
-use Rattle.creating.proofs.give_initial.Statement.{statement}
-use Rattle.creating.proofs.give_initial.Tie as tie
+use Rattle.creation_rule.proofs.InitialLaws.{hands-none}
+use Rattle.creation_rule.proofs.give_initial.Statement.{statement}
+use Rattle.creation_rule.proofs.give_initial.Tie as tie
 
 enum-told : tie.Need-enum-told
 enum-told c = search needs
@@ -15,7 +14,9 @@ enum-known-initial : tie.Need-enum-known-initial
 enum-known-initial c = search needs
 
 hand-on-requires : tie.Need-hand-on-requires
-hand-on-requires c κs = search (initial-proper, initial-object, needs)
+hand-on-requires c κs =
+    let given = c .before .before .before .before .before .pre in
+    let handed = rw (c .before .before .initial .given .1) at (given .2) in (given .0, given .1, handed .2, handed .0, handed .1)
 
 returns : tie.Need-returns
 returns c = rw (c .enum-told .given .1) (hands-none (c .before .before .before .args .table .now))

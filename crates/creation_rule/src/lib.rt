@@ -1,39 +1,42 @@
-// What the five CREATE calls share: their checks in their order, storing the new object, and handing on the initial range of a new PD.
+// The rule that the five CREATE calls share: the checks in their order, and the steps in theirs.
+ghost use mathlib.Core.Bool.{true};
 ghost use mathlib.Core.Path.{_≡_};
 ghost use Prim.Native.Nat.{_^_, _<_, _≤_};
-ghost use Rattle.words.specs.Sizes.{domains, object, records};
+ghost use Rattle.words.specs.Sizes.{domains, object};
 ghost use Rattle.descriptor.specs.Descriptors.{Proper};
 ghost use Rattle.interface.specs.Places.{SM, tables, view};
 ghost use Rattle.interface.specs.Creations.{handOn, initialGood, initialGives};
 ghost use Rattle.places.specs.Table.{Sized as SizedPlaces};
-ghost use Rattle.objects.specs.Records.{Sized as SizedObjects, fiveWords};
-ghost use Rattle.creating.specs.Creating.{Decides, Created, Hands, Initial};
+ghost use Rattle.objects.specs.Records.{Sized as SizedObjects};
+ghost use Rattle.creation_rule.specs.CreationRule.{Decides, Creates, Hands, Handed};
 use descriptor::FoundObject;
 use descriptor::ObjectNumber;
 use descriptor::Place;
 use descriptor::Range;
 use descriptor::Reading;
 use descriptor::Reply;
+use objects::Record;
 use words::ranges;
 use words::sizes;
 
-// The kind of a creation, and what its own tests came to.
+// What one creation has of its own: the new object's words, what its own tests came to, and the initial range of a new PD.
 pub struct Creation {
-    pub kind: u32,
+    pub object: Record,
     pub bindable: bool,
     pub cpu_good: bool,
     pub parameters_good: bool,
     pub domain_left: bool,
+    pub initial: Reading,
 }
 
 // What the checks of a creation come to: the record that the new object takes, or a refusal.
-pub enum Checked {
+enum Checked {
     Takes(ObjectNumber),
     Refused(Reply),
 }
 
 // The checks that all creations have, in their order.
-pub fn check(
+fn check(
     places: &[u32],
     objects: &[u32],
     domain: u32,
@@ -41,7 +44,7 @@ pub fn check(
     pd: u32,
     new: Creation,
 ) -> Checked
-    requires { ⌜ SizedPlaces (now places) × SizedObjects (now objects) × (domain < domains) × (0 < new .kind) × (new .kind ≤ SM) ⌝ }
+    requires { ⌜ SizedPlaces (now places) × SizedObjects (now objects) × (domain < domains) × (0 < new .object .0) × (new .object .0 ≤ SM) ⌝ }
     ensures { λ r. ⌜ Decides (view (now (places .entry)) (now (objects .entry))) domain selector pd new r ⌝ }
 {
     if places::is_live(places::load(places, capabilities::object_place(domain, selector))) {
@@ -52,7 +55,7 @@ pub fn check(
         objects,
         capabilities::object_place(domain, pd),
         objects::PD,
-        new.kind - 1,
+        new.object.0 - 1,
     ) {
         return Checked::Refused(Reply::BadCap);
     }
@@ -72,32 +75,6 @@ pub fn check(
         return Checked::Refused(Reply::NoRoom);
     }
     Checked::Takes(number)
-}
-
-// Stores a new object in its record, and gives its place the greatest permissions and no parent.
-pub fn create(
-    places: &mut [u32],
-    objects: &mut [u32],
-    domain: u32,
-    selector: u32,
-    number: ObjectNumber,
-    kind: u32,
-    first: u32,
-    second: u32,
-    third: u32,
-    fourth: u32,
-)
-    requires { ⌜ SizedPlaces (now places) × SizedObjects (now objects) × (domain < domains) × (number .0 < records) × (kind ≤ SM) ⌝ }
-    ensures { λ r. ⌜
-        Created (tables (now (places .entry)) (now (objects .entry))) (tables (now (places .exit)) (now (objects .exit)))
-        domain selector (number .0) (fiveWords kind first second third fourth) ⌝ }
-{
-    objects::make(objects, number, kind, first, second, third, fourth);
-    places::store(
-        places,
-        capabilities::object_place(domain, selector),
-        places::without_parent(number.number(), objects::greatest_of(kind)),
-    );
 }
 
 // Delegates each place of a range of object selectors to the same selector of another domain.
@@ -128,13 +105,45 @@ pub fn is_initial(initial: Reading) -> bool
 }
 
 // Delegates an initial range from one domain to another.
-pub fn give_initial(table: &mut [u32], from: u32, to: u32, initial: Reading)
-    requires { ⌜ SizedPlaces (now table) × (from < domains) × (to < domains) × Initial initial ⌝ }
+fn give_initial(table: &mut [u32], from: u32, to: u32, initial: Reading)
+    requires { ⌜ SizedPlaces (now table) × (from < domains) × Handed to initial ⌝ }
     ensures { λ r. ⌜ Hands (initialGives from to initial) (now (table .entry)) (now (table .exit)) ⌝ }
 {
     match initial {
         Reading::Null => {}
         Reading::Malformed => {}
         Reading::Good(range) => hand_on(table, from, to, range),
+    }
+}
+
+// Creates an object by the rule of every creation: the checks; then its words are stored, the initial range is delegated to the domain that they name, and the new place gets
+// the greatest permissions and no parent.
+pub fn create(
+    places: &mut [u32],
+    objects: &mut [u32],
+    domain: u32,
+    selector: u32,
+    pd: u32,
+    new: Creation,
+) -> Reply
+    requires { ⌜
+        SizedPlaces (now places) × SizedObjects (now objects) × (domain < domains) × (0 < new .object .0) × (new .object .0 ≤ SM) ×
+        (new .«parameters_good» ≡ true → new .«domain_left» ≡ true → Handed (new .object .1) (new .initial)) ⌝ }
+    ensures { λ r. ⌜ Creates domain selector pd new (tables (now (places .entry)) (now (objects .entry))) (tables (now (places .exit)) (now (objects .exit))) r ⌝ }
+{
+    match check(places, objects, domain, selector, pd, new) {
+        Checked::Refused(reply) => reply,
+        Checked::Takes(number) => {
+            let object = new.object;
+            let initial = new.initial;
+            objects::make(objects, number, object);
+            give_initial(places, domain, object.1, initial);
+            places::store(
+                places,
+                capabilities::object_place(domain, selector),
+                places::without_parent(number.number(), objects::greatest_of(object.0)),
+            );
+            Reply::Success(0)
+        }
     }
 }

@@ -1,4 +1,0 @@
--- What is proved of what the creations share.
-pub mod CheckLaws
-pub mod CreatingLaws
-pub mod InitialLaws

@@ -1,2 +1,0 @@
--- What the contracts of what the creations share cite.
-pub mod Creating
