@@ -1,4 +1,4 @@
--- What is proved of walks along parent links, of revocation and of the census.
+-- What is proved of walks along parent links, of marks, of revocation and of the census.
 pub mod WalkLaws
 pub mod LinkLaws
 pub mod MarkLaws

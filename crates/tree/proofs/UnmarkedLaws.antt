@@ -1,20 +1,20 @@
--- Places that lose nothing when a range is revoked: those of another space, since a walk stays in one space, and those of a word that has no parents and that self does not ask for.
-use Prim.Native.Nat.{ℕ, zero, suc, _+_, _-_, _<_}
+-- Places that are not below a range: those of another space, since a walk stays in one space, and those of a word that has no parents.
+use Prim.Native.Nat.{ℕ, zero, suc, _+_, _-_, _≤_, _<_}
 use mathlib.Core.Path.{_≡_, refl, sym, _∙_}
-use mathlib.Core.Bool.{Bool, true, false, not, _&&_, and-false}
+use mathlib.Core.Bool.{Bool, true, false, _&&_}
 use native.Mathlib.Numerals.{add-one}
 use native.Mathlib.Omega.{arith}
 use lib.Dec.{eqb, leb, ltb}
-use borrow.Author.Tests.{leb-true, ltb-true, lt-ltb, eqb-true, eqb-false, not-true}
+use borrow.Author.Tests.{leb-true, ltb-true, eqb-true, eqb-false}
 use Rattle.words.specs.Sizes.{spaceOf, places}
 use Rattle.interface.specs.Basics.{allBelow, any}
 use Rattle.interface.specs.Places.{Cap}
 use Rattle.interface.specs.Effects.{ancestors, among, below}
-use Rattle.interface.proofs.Basics.BoolLaws.{cases, not-both, and-left, and-right, both}
+use Rattle.interface.proofs.Basics.BoolLaws.{cases, and-left, and-right}
 use Rattle.interface.proofs.Basics.BelowLaws.{all-below-at}
 use Rattle.interface.proofs.Sound.CutSound.{ancestors-child, ancestors-none}
-use Rattle.tree.specs.Walks.{Linked, InSpace, cutAt, packed, wordBits, meets, parentlessFrom}
-use Rattle.tree.proofs.MarkLaws.{packed-blank}
+use Rattle.marks.specs.PlaceBits.{wordBits}
+use Rattle.tree.specs.Walks.{Linked, InSpace, parentlessFrom}
 
 module _ (caps : ℕ → Cap) (linked : Linked caps) {first size : ℕ} (range : InSpace first size) where
   not-among : (p : ℕ) → (spaceOf p ≡ spaceOf first → ⊥) → among first size p ≡ false
@@ -42,44 +42,24 @@ module _ (caps : ℕ → Cap) (linked : Linked caps) {first size : ℕ} (range :
       let away : spaceOf q ≡ spaceOf first → ⊥ = λ same. other (sym (linked .parent-space p q l to) ∙ same) in
       rw (ancestors-child caps p q to (omega (arith, linked .parent-depth p q l to)), not-among q away) (above q to away))
 
-  not-below : (depth p : ℕ) → caps p .depth ≡ depth → p < places → (spaceOf p ≡ spaceOf first → ⊥) → any (among first size) (ancestors caps p) ≡ false
-  not-below zero p e l other = step p l other (λ q to away. absurd (omega (arith, linked .parent-depth p q l to)))
-  not-below (suc depth) p e l other =
-      step p l other (λ q to away. not-below depth q (omega (arith, linked .parent-depth p q l to)) (linked .parent-place p q l to) away)
+  none-above : (depth p : ℕ) → caps p .depth ≡ depth → p < places → (spaceOf p ≡ spaceOf first → ⊥) → any (among first size) (ancestors caps p) ≡ false
+  none-above zero p e l other = step p l other (λ q to away. absurd (omega (arith, linked .parent-depth p q l to)))
+  none-above (suc depth) p e l other =
+      step p l other (λ q to away. none-above depth q (omega (arith, linked .parent-depth p q l to)) (linked .parent-place p q l to) away)
 
-  pub not-cut : (self : Bool) (p : ℕ) → p < places → (spaceOf p ≡ spaceOf first → ⊥) → cutAt caps first size self p ≡ false
+  pub not-below : (p : ℕ) → p < places → (spaceOf p ≡ spaceOf first → ⊥) → below caps first size p ≡ false
   unfolding below
-  not-cut self p l other = rw (not-below (caps p .depth) p refl l other, not-among p other, and-false self)
+  not-below p l other = none-above (caps p .depth) p refl l other
 
--- a word whose places have no parents, and that self does not ask for: its places lose nothing
-module _ (caps : ℕ → Cap) (first size from : ℕ) (self : Bool) where
-  abbrev asked : Bool
-  asked = self && meets first size from
-
-  not-asked : (i : ℕ) → i < wordBits → not asked ≡ true → (self && among first size (from + i)) ≡ false
-  not-asked i l apart =
-      cases (self && among first size (from + i))
-      (λ (t : (self && among first size (from + i)) ≡ true).
-      let itself = and-left self (among first size (from + i)) t in
-      let inside = and-right self (among first size (from + i)) t in
-      let low = leb-true first (from + i) (and-left (leb first (from + i)) (ltb (from + i) (first + size)) inside) in
-      let high = ltb-true (from + i) (first + size) (and-right (leb first (from + i)) (ltb (from + i) (first + size)) inside) in
-      let met : meets first size from ≡ true =
-      both (ltb first (from + wordBits)) (ltb from (first + size)) (lt-ltb first (from + wordBits) (omega arith)) (lt-ltb from (first + size) (omega arith)) in
-      not-both asked (both self (meets first size from) itself met) (not-true asked apart))
-      (λ (f : (self && among first size (from + i)) ≡ false). f)
-
-  pub parentless-word : {met parentless : Bool} → met ≡ meets first size from → parentless ≡ parentlessFrom caps from wordBits →
-      (not (self && met) && parentless) ≡ true → 0 ≡ packed (cutAt caps first size self) from wordBits
-  unfolding parentlessFrom below any
-  parentless-word {met} {parentless} is-met is-parentless tested =
-      let apart : not asked ≡ true = rw is-met at (and-left (not (self && met)) parentless tested) in
-      let all = sym is-parentless ∙ and-right (not (self && met)) parentless tested in
-      sym
-      (packed-blank (cutAt caps first size self) wordBits from
-      (λ i l.
-      let root = eqb-true (caps (from + i) .parent) 0 (all-below-at wordBits (λ (j : ℕ). eqb (caps (from + j) .parent) 0) all i l) in
-      rw (ancestors-none caps (from + i) root, not-asked i l apart)))
+-- nor is a place of a word whose places have no parents
+pub parentless-below : (caps : ℕ → Cap) (first size from : ℕ) {parentless : Bool} → parentless ≡ parentlessFrom caps from wordBits → parentless ≡ true →
+    (p : ℕ) → from ≤ p → p < from + wordBits → below caps first size p ≡ false
+unfolding parentlessFrom below any
+parentless-below caps first size from is-parentless all p low high =
+    let i = p - from in
+    let there : from + i ≡ p = omega arith in
+    let root = eqb-true (caps (from + i) .parent) 0 (all-below-at wordBits (λ (j : ℕ). eqb (caps (from + j) .parent) 0) (sym is-parentless ∙ all) i (omega arith)) in
+    rw (ancestors-none caps p (rw there at root))
 
 -- the places of a word looked at in turn
 module _ (caps : ℕ → Cap) (from : ℕ) where

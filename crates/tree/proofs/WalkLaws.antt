@@ -1,11 +1,11 @@
 -- Laws of walks along parent links: a walk ends at a place without a parent, and goes on from a parent, whose depth is one less.
-use Prim.Native.Nat.{ℕ, suc, _+_, _-_, _≤_, _<_}
+use Prim.Native.Nat.{ℕ, suc, _-_, _≤_, _<_}
 use mathlib.Core.Path.{_≡_, refl, sym, ap, _∙_}
-use mathlib.Core.Bool.{Bool, true, false, not, _&&_, _||_}
-use mathlib.Core.List.{List, [], _∷_}
+use mathlib.Core.Bool.{Bool, true, false, _||_}
+use mathlib.Core.List.{_∷_}
 use native.Mathlib.Omega.{arith}
 use lib.Dec.{eqb}
-use borrow.Author.Tests.{eqb-true, eqb-false, ne-eqb}
+use borrow.Author.Tests.{eqb-true, eqb-false}
 use Rattle.words.specs.Sizes.{places, spaceOf}
 use Rattle.descriptor.specs.declared.Place.{Place}
 use Rattle.descriptor.specs.declared.FoundPlace.{FoundPlace}
@@ -17,7 +17,7 @@ use Rattle.interface.specs.Places.{Cap}
 use Rattle.interface.specs.Effects.{ancestors, among, below}
 use Rattle.interface.proofs.Basics.BoolLaws.{cases}
 use Rattle.interface.proofs.Sound.CutSound.{ancestors-child, ancestors-none}
-use Rattle.tree.specs.Walks.{Linked, firstAmong, cutAt}
+use Rattle.tree.specs.Walks.{Linked, firstAmong}
 
 -- what a place holds, and the place that its parent word leads to
 module _ {caps : ℕ → Cap} {place : ℕ} {cap : Cap} {found : FoundPlace} (links : Linked caps) (small : place < places) (is-cap : cap ≡ caps place)
@@ -38,10 +38,9 @@ module _ {caps : ℕ → Cap} {place : ℕ} {cap : Cap} {found : FoundPlace} (li
   walk-ends first size none = rw (ancestors-none caps place (no-parent none))
 
   -- a place without a parent is below none
-  pub rootless-cut : (first size : ℕ) (self : Bool) {inside : Bool} → inside ≡ among first size place → found ≡ Nowhere →
-      (self && inside) ≡ cutAt caps first size self place
+  pub rootless-below : (first size : ℕ) → found ≡ Nowhere → false ≡ below caps first size place
   unfolding below any
-  rootless-cut first size self is-inside none = rw (ancestors-none caps place (no-parent none), is-inside)
+  rootless-below first size none = rw (ancestors-none caps place (no-parent none))
 
   module _ {above : Place} (leads : found ≡ At above) where
     leads-there : (cap .parent ≡ linkOf (above .0)) × (above .0 < places)
@@ -74,18 +73,13 @@ module _ {caps : ℕ → Cap} {place : ℕ} {cap : Cap} {found : FoundPlace} (li
       walk-passes f e = rw (walk-on, sym is-inside ∙ f) e
 
     -- a place is below some places where its parent is among them or below them
-    pub walk-below : (first size : ℕ) → below caps first size place ≡ (among first size (above .0) || below caps first size (above .0))
+    walk-below : (first size : ℕ) → below caps first size place ≡ (among first size (above .0) || below caps first size (above .0))
     unfolding below any
     walk-below first size = rw walk-on
 
--- a walk finds a place where one that it passes is among the places
-found-any : (first size : ℕ) (list : List ℕ) → not (eqb (firstAmong first size list) 0) ≡ any (among first size) list
-unfolding firstAmong any
-found-any first size [] = refl
-found-any first size (place ∷ list) =
-    cases (among first size place) (λ (t : among first size place ≡ true). rw (t, ne-eqb (place + 1) 0 (omega arith)))
-    (λ (f : among first size place ≡ false). rw f (found-any first size list))
+    module _ (first size : ℕ) {inside : Bool} (is-inside : inside ≡ among first size (above .0)) where
+      pub below-inside : inside ≡ true → true ≡ below caps first size place
+      below-inside t = rw (walk-below first size, sym is-inside ∙ t)
 
-pub walk-tells : (caps : ℕ → Cap) (first size place r : ℕ) → r ≡ firstAmong first size (ancestors caps place) → not (eqb r 0) ≡ below caps first size place
-unfolding below
-walk-tells caps first size place r e = rw e (found-any first size (ancestors caps place))
+      pub below-outside : inside ≡ false → below caps first size (above .0) ≡ below caps first size place
+      below-outside f = rw (walk-below first size, sym is-inside ∙ f)

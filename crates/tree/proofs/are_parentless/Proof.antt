@@ -4,7 +4,8 @@ use mathlib.Core.Path.{_≡_}
 use native.Mathlib.Omega.{arith}
 use borrow.Author.Needs.{needs}
 use Rattle.interface.specs.Places.{capAt}
-use Rattle.tree.specs.Walks.{wordBits, parentlessFrom}
+use Rattle.marks.specs.PlaceBits.{wordBits}
+use Rattle.tree.specs.Walks.{parentlessFrom}
 use Rattle.tree.proofs.UnmarkedLaws.{parentless-none, parentless-more, parentless-all}
 use Rattle.tree.proofs.are_parentless.Statement.{statement}
 use Rattle.tree.proofs.are_parentless.Tie as tie

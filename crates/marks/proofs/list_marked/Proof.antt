@@ -3,19 +3,19 @@ use Prim.Native.Nat.{_-_, _<_, _≤_}
 use mathlib.Core.Path.{_≡_, _∙_}
 use mathlib.Core.Bool.{true}
 use native.Mathlib.Omega.{arith}
-use borrow.Author.Needs.{needs}
 use Rattle.words.specs.Sizes.{places}
-use Rattle.tree.specs.Walks.{markAt}
-use Rattle.tree.proofs.CensusLaws.{Filled, filled-none, filled-room, filled-more, filled-all}
-use Rattle.tree.proofs.list_marked.Statement.{statement}
-use Rattle.tree.proofs.list_marked.Tie as tie
+use Rattle.marks.specs.PlaceBits.{bitAt}
+use Rattle.marks.proofs.MarkedLaws.{Filled, filled-none, filled-room, filled-more, filled-all}
+use borrow.Author.Needs.{needs}
+use Rattle.marks.proofs.list_marked.Statement.{statement}
+use Rattle.marks.proofs.list_marked.Tie as tie
 
 abbrev Inv-loop : tie.InvT-loop
-Inv-loop marked space list₀ count₀ number₀ list count number =
-    (number ≤ places) × (count ≤ number) × Filled space marked number count list₀ list × (number < places → markAt space marked number ≡ true)
+Inv-loop marked list₀ count₀ number₀ list count number =
+    (number ≤ places) × (count ≤ number) × Filled marked number count list₀ list × (number < places → bitAt marked number ≡ true)
 
 abbrev μ-loop : tie.MeasureT-loop
-μ-loop marked space list₀ count₀ number₀ list count number = places - number
+μ-loop marked list₀ count₀ number₀ list count number = places - number
 
 next-marked-requires : tie.Need-next-marked-requires Inv-loop μ-loop
 next-marked-requires c κs = search needs
@@ -35,7 +35,8 @@ mul-list c = search needs
 slice-write-list : tie.Need-slice-write-list Inv-loop μ-loop
 slice-write-list c =
     let loop = c .before .before .before in
-    filled-room (loop .loop .inv .2) (omega arith) (loop .before .before .before .pre) (loop .loop .inv .3 (omega arith))
+    let start = loop .before .before .before in
+    filled-room (loop .loop .inv .2) (omega arith) (start .pre) (loop .loop .inv .3 (omega arith))
 
 add-count : tie.Need-add-count Inv-loop μ-loop
 add-count c = search needs
@@ -51,19 +52,26 @@ loop-less c = let found = c .next-marked2 .ensures in omega (arith, found .later
 
 loop-again : tie.Need-loop-again Inv-loop μ-loop
 loop-again c =
+    let number = c .before in
+    let counted = number .before in
+    let loop = counted .before .before in
+    let start = loop .before .before .before in
     let found = c .next-marked2 .ensures in
-    let loop = c .before .before .before .before in
     let inv = loop .loop .inv in
     let here = inv .3 (omega arith) in
-    let room = filled-room (inv .2) (omega arith) (loop .before .before .before .pre) here in
-    let is-word = c .before .number .ensures ∙ c .before .before .counted .ensures in
+    let room = filled-room (inv .2) (omega arith) (start .pre) here in
+    let is-word = number .number .ensures ∙ counted .counted .ensures in
     (found .ends, omega (arith, found .later, inv .1), rw is-word (filled-more (inv .2) room here found), found .marked)
 
 same-length : tie.Need-same-length Inv-loop μ-loop
-same-length c = c .before .loop .inv .2 .as-long
+same-length c =
+    let loop = c .before in
+    loop .loop .inv .2 .as-long
 
 returns : tie.Need-returns Inv-loop μ-loop
-returns c = let inv = c .before .loop .inv in filled-all (inv .2) (omega (arith, inv .0))
+returns c =
+    let loop = c .before in
+    filled-all (loop .loop .inv .2) (omega (arith, loop .loop .inv .0))
 
 pub list-marked-spec : {M : Type 1} → statement M
 list-marked-spec =

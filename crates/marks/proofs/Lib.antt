@@ -1,0 +1,3 @@
+-- What is proved of marks.
+pub mod PlaceBitLaws
+pub mod MarkedLaws

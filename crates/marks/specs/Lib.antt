@@ -1,0 +1,2 @@
+-- What the contracts of marks cite.
+pub mod PlaceBits
