@@ -9,7 +9,7 @@ use lib.Pow.{pow-pos}
 use borrow.Author.Tests.{lt-ltb, le-ltb, le-leb, eq-eqb, ne-eqb, ltb-true, leb-true, eqb-true, eqb-false, ltb-false}
 use Rattle.words.specs.Sizes.{object, selectors, places, records, objectOrder, greatestOrder}
 use Rattle.words.specs.Ranges.{aligned}
-use Rattle.words.proofs.RangeLaws.{aligned-divides, size-divides, multiples-apart}
+use Rattle.words.proofs.RangeLaws.{aligned-divides, size-divides, range-ends}
 use Rattle.words.proofs.SizeLaws.{selectors-object, greatest-small, selectors-few}
 use Rattle.descriptor.specs.declared.Selector.{Selector}
 use Rattle.descriptor.specs.declared.FoundSelector.the-variants.{Named, Outside}
@@ -267,9 +267,10 @@ module _ (space order base : ℕ) (w : wellFormed space order base ≡ true) whe
   inside : (there : Bool) → eqb space object ≡ there → (there || leb (base + 2 ^ order) (selectors space)) ≡ true →
       (2 ^ order ∣ cond there (base % selectors object) base) × (cond there (base % selectors object) base + 2 ^ order ≤ selectors space)
   inside true e h =
-      let whole : 2 ^ order ∣ selectors object = size-divides order objectOrder (omega (arith, order-small, greatest-small space)) in
+      let small : order ≤ objectOrder = omega (arith, order-small, greatest-small space) in
+      let whole : 2 ^ order ∣ selectors object = size-divides order objectOrder small in
       let divides : 2 ^ order ∣ base % selectors object = dvd-mod-iff (2 ^ order) whole .1 (aligned-divides order base .0 (parts .1)) in
-      (divides, rw (selectors-object space (eqb-true space object e)) (multiples-apart (2 ^ order) divides whole (omega arith)))
+      (divides, rw (selectors-object space (eqb-true space object e)) (range-ends objectOrder order (base % selectors object) small divides (omega arith)))
   inside false e h = (aligned-divides order base .0 (parts .1), leb-true (base + 2 ^ order) (selectors space) h)
 
   wrapped-aligned : aligned order (wrapped space base) ≡ true

@@ -19,7 +19,7 @@ use Rattle.descriptor.specs.Descriptors.{Proper, describe, reading}
 use Rattle.interface.specs.Places.{Cap, State, live, domainWord, capAt, view}
 use Rattle.interface.specs.Verdicts.{Call, replyOf}
 use Rattle.interface.specs.Lookup.{largest, around, found, lookup}
-use Rattle.lookup.proofs.UniformLaws.{range-ends}
+use Rattle.lookup.proofs.UniformLaws.{around-ends}
 
 -- a range's base in a domain: where its space begins there, the base's selector, and what the base's place holds
 pub record Base (places : List ℕ) (domain : ℕ) (range : Range) (first selector : ℕ) (cap : Cap) : Type 0 where
@@ -54,7 +54,7 @@ module _ {places : List ℕ} {domain first selector : ℕ} {range : Range} {cap 
           space-small = rw is-space (base .proper .space-small);
           order-small = rw is-space small;
           base-aligned = rw low-rounded (aligned-divides order (rounded order selector) .1 (rounded-divides order selector));
-          ends-inside = rw (is-space, low-rounded) (range-ends (greatestOrder (range .space)) order selector small base-small);
+          ends-inside = rw (is-space, low-rounded) (around-ends (greatestOrder (range .space)) order selector small base-small);
           mask-small = mask-small;
         }
 

@@ -8,7 +8,7 @@ use native.Mathlib.Omega.{arith}
 use lib.Dec.{eqb}
 use lib.Pow.{pow-pos}
 use Rattle.words.specs.Ranges.{rounded}
-use Rattle.words.proofs.RangeLaws.{size-divides, rounded-divides, multiples-apart}
+use Rattle.words.proofs.RangeLaws.{rounded-divides, range-ends}
 use Rattle.interface.specs.Basics.{allBelow}
 use Rattle.interface.specs.Places.{Cap, live}
 use Rattle.interface.specs.Lookup.{uniform, largest}
@@ -16,9 +16,8 @@ use Rattle.interface.proofs.Basics.BoolLaws.{cases, both, not-both}
 use Rattle.interface.proofs.Basics.BelowLaws.{all-below-at}
 
 -- a range around a selector ends in its space, and the selector lies in it
-pub range-ends : (greatest order selector : ℕ) → order ≤ greatest → selector < 2 ^ greatest → rounded order selector + 2 ^ order ≤ 2 ^ greatest
-range-ends greatest order selector small inside =
-    multiples-apart (2 ^ order) (rounded-divides order selector) (size-divides order greatest small) (omega arith)
+pub around-ends : (greatest order selector : ℕ) → order ≤ greatest → selector < 2 ^ greatest → rounded order selector + 2 ^ order ≤ 2 ^ greatest
+around-ends greatest order selector small inside = range-ends greatest order (rounded order selector) small (rounded-divides order selector) (omega arith)
 
 pub range-holds : (order selector : ℕ) → selector < rounded order selector + 2 ^ order
 range-holds order selector = omega (arith, mod-lt selector (pow-pos order))

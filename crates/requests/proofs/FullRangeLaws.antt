@@ -1,12 +1,12 @@
 -- The ranges that are asked for lie in their spaces, whatever the sizes of those.
-use Prim.Native.Nat.{ℕ, _+_, _%_, _^_, _≤_, _<_}
+use Prim.Native.Nat.{ℕ, _%_, _≤_, _<_}
 use mathlib.Core.Path.{_≡_, sym, _∙_}
 use mathlib.Core.Bool.{true}
 use native.Mathlib.Omega.{arith}
 use borrow.Author.Tests.{eq-eqb}
 use Rattle.words.specs.Sizes.{greatestOrder, selectors, spaces}
 use Rattle.words.specs.Ranges.{aligned}
-use Rattle.words.proofs.RangeLaws.{aligned-divides, multiples-apart, size-divides}
+use Rattle.words.proofs.RangeLaws.{aligned-divides, range-ends}
 use Rattle.descriptor.specs.declared.Selector.{Selector}
 use Rattle.descriptor.specs.declared.FoundSelector.{FoundSelector}
 use Rattle.descriptor.specs.declared.FoundSelector.the-variants.{Named, Outside}
@@ -26,7 +26,7 @@ full-proper space base order is-space is-order is-aligned is-selector =
       space-small = is-space;
       order-small = is-order;
       base-aligned = is-aligned;
-      ends-inside = multiples-apart (2 ^ order) (aligned-divides order base .0 is-aligned) (size-divides order (greatestOrder space) is-order) is-selector;
+      ends-inside = range-ends (greatestOrder space) order base is-order (aligned-divides order base .0 is-aligned) is-selector;
       mask-small = omega arith;
     }
 

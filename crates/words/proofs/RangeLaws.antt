@@ -26,11 +26,15 @@ rounded-divides order number =
 pub multiples-apart : (n : ℕ) {a b : ℕ} → n ∣ a → n ∣ b → a < b → a + n ≤ b
 multiples-apart n {a} {b} ha hb h = let apart : n ≤ b - a = le-of-dvd (omega arith) (dvd-sub n hb ha) in omega arith
 
--- a range that is aligned and begins below the size of a larger one ends there at the latest
+-- a range whose size divides its base, and that begins below the size of a larger one, ends there at the latest
+pub range-ends : (greatest order base : ℕ) → order ≤ greatest → 2 ^ order ∣ base → base < 2 ^ greatest → base + 2 ^ order ≤ 2 ^ greatest
+range-ends greatest order base h d b = multiples-apart (2 ^ order) d (size-divides order greatest h) b
+
+-- so an aligned one lies there whole
 pub stays-inside : (greatest order base offset : ℕ) → order ≤ greatest → aligned order base ≡ true → base < 2 ^ greatest → offset < 2 ^ order →
     base + offset < 2 ^ greatest
 stays-inside greatest order base offset h a b o =
-    omega (arith, multiples-apart (2 ^ order) (aligned-divides order base .0 a) (size-divides order greatest h) b)
+    omega (arith, range-ends greatest order base h (aligned-divides order base .0 a) b)
 
 pub equal-orders : (order hotspot base : ℕ) → raised order order hotspot base ≡ base
 equal-orders order hotspot base = omega (arith, mod-mod hotspot (2 ^ order))
@@ -48,7 +52,7 @@ starts-inside order smaller hotspot base = le-add-right base (rounded smaller (h
 pub ends-inside : (order smaller hotspot base : ℕ) → smaller ≤ order → raised order smaller hotspot base + 2 ^ smaller ≤ base + 2 ^ order
 ends-inside order smaller hotspot base h =
     let below : hotspot % 2 ^ order < 2 ^ order = mod-lt hotspot (pow-pos order) in
-    omega (arith, multiples-apart (2 ^ smaller) (rounded-divides smaller (hotspot % 2 ^ order)) (size-divides smaller order h) (omega arith))
+    omega (arith, range-ends order smaller (rounded smaller (hotspot % 2 ^ order)) h (rounded-divides smaller (hotspot % 2 ^ order)) (omega arith))
 
 pub holds-hotspot : (order smaller hotspot base : ℕ) →
     (raised order smaller hotspot base ≤ base + hotspot % 2 ^ order) × (base + hotspot % 2 ^ order < raised order smaller hotspot base + 2 ^ smaller)

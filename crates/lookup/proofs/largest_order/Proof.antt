@@ -6,7 +6,7 @@ use denote.Ref.{now}
 use borrow.Author.Needs.{needs}
 use Rattle.interface.specs.Places.{capAt}
 use Rattle.interface.specs.Lookup.{largest}
-use Rattle.lookup.proofs.UniformLaws.{range-ends, largest-here, largest-below, largest-least}
+use Rattle.lookup.proofs.UniformLaws.{around-ends, largest-here, largest-below, largest-least}
 use Rattle.lookup.proofs.largest_order.Statement.{statement}
 use Rattle.lookup.proofs.largest_order.Tie as tie
 
@@ -25,7 +25,7 @@ is-uniform-requires c κs =
     let loop = c .before in
     let start = loop .before .before in
     let given = start .args in
-    let ends = range-ends (given .greatest) (loop .loop .order) (given .selector) (loop .loop .inv .0) (start .pre .2) in
+    let ends = around-ends (given .greatest) (loop .loop .order) (given .selector) (loop .loop .inv .0) (start .pre .2) in
     (start .pre .0, omega (arith, start .pre .1, loop .loop .inv .0), omega (arith, start .pre .3, ends))
 
 returns : tie.Need-returns Inv-loop μ-loop
