@@ -11,14 +11,13 @@ use Rattle.words.specs.Ranges.{rounded}
 use Rattle.words.proofs.PlaceLaws.{is-place, space-back}
 use Rattle.descriptor.specs.declared.Range.{Range}
 use Rattle.interface.specs.Basics.{if_then_else_, listed}
-use Rattle.interface.specs.Places.{State, capAt, capTable}
+use Rattle.interface.specs.Places.{State, capAt, capTable, placesIn}
 use Rattle.interface.specs.Effects.{Effect, give, fills, givenCaps, act, run, fillsOne, filled}
 use Rattle.interface.specs.Message.{smallerOrder, raisedBase, delegations}
 use Rattle.interface.proofs.Basics.BoolLaws.{either-way}
 use Rattle.interface.proofs.Tables.TurnLaws.{run-append, gives}
 use Rattle.places.specs.Table.{Sized, Given}
 use Rattle.places.proofs.CapTableLaws.{length-cap-table, cap-at-table, cap-table-back, cap-at-end, given-end}
-use Rattle.tree.specs.Walks.{placesOnly}
 use Rattle.windows.specs.Matching.{Matched}
 use Rattle.delegation.specs.Delegating.{LiveLinks, GivenAt, Taken}
 use Rattle.delegation.proofs.LiveLinkLaws.{give-links}
@@ -75,8 +74,8 @@ filled-few (suc n) destination source mask s =
 -- what a table shows after some delegations, how many places they filled, and that live links are so still
 pub record Running (start now : List ℕ) (effects : List Effect) (count : ℕ) : Type 0 where
   pub sized : Sized now
-  pub shows : placesOnly now ≡ run effects (placesOnly start)
-  pub fills : count ≡ filled effects (placesOnly start)
+  pub shows : placesIn now ≡ run effects (placesIn start)
+  pub fills : count ≡ filled effects (placesIn start)
   pub links-stay : LiveLinks (capAt start) → LiveLinks (capAt now)
 
 pub running-none : {start : List ℕ} → Sized start → Running start start [] 0
@@ -93,8 +92,8 @@ running-give {start} {now} {after} {effects} {count} {filled} destination source
     let is-after : capAt after ≡ caps = rw (g .given .leaves) (cap-at-table caps ends) in
     record {
       sized = rw (g .given .leaves) (length-cap-table caps);
-      shows = rw (is-after, run-more effects destination source mask (placesOnly start), sym (r .shows));
-      fills = rw (g .given .is-filled, r .fills, filled-more effects destination source mask (placesOnly start), sym (r .shows));
+      shows = rw (is-after, run-more effects destination source mask (placesIn start), sym (r .shows));
+      fills = rw (g .given .is-filled, r .fills, filled-more effects destination source mask (placesIn start), sym (r .shows));
       links-stay = λ links. rw is-after (give-links (capAt now) destination source mask (g .from-place) (g .same-space) (r .links-stay links));
     }
 

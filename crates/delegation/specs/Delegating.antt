@@ -4,10 +4,10 @@ use mathlib.Core.Path.{_≡_}
 use mathlib.Core.Bool.{Bool, true}
 use mathlib.Core.List.{List}
 use Rattle.words.specs.Sizes.{places, spaceOf}
-use Rattle.interface.specs.Places.{Cap, live, capAt, capTable}
+use Rattle.interface.specs.Places.{Cap, live, capAt, capTable, placesIn}
 use Rattle.interface.specs.Effects.{Effect, run, filled}
 use Rattle.places.specs.Table.{Given}
-use Rattle.tree.specs.Walks.{Linked, placesOnly}
+use Rattle.tree.specs.Walks.{Linked}
 
 -- links that delegations keep: a walk can follow them, and each parent is live
 pub record LiveLinks (caps : ℕ → Cap) : Type 0 where
@@ -23,7 +23,7 @@ pub record GivenAt (before after : List ℕ) (destination source mask : ℕ) (fi
 
 -- delegations in turn: the table they leave, what it shows, how many places they filled, and that live links stay so
 pub record Taken (before after : List ℕ) (effects : List Effect) (count : ℕ) : Type 0 where
-  pub leaves : after ≡ capTable (run effects (placesOnly before) .caps)
-  pub shows : placesOnly after ≡ run effects (placesOnly before)
-  pub fills : count ≡ filled effects (placesOnly before)
+  pub leaves : after ≡ capTable (run effects (placesIn before) .caps)
+  pub shows : placesIn after ≡ run effects (placesIn before)
+  pub fills : count ≡ filled effects (placesIn before)
   pub links-stay : LiveLinks (capAt before) → LiveLinks (capAt after)

@@ -112,11 +112,20 @@ isResource s space resource = if eqb space object then ltb resource records && n
 abbrev pub parentless-place : State → ℕ → Bool
 parentless-place s p = eqb (s .caps p .depth) 0 && (eqb (spaceOf p) object || eqb (domainOf p) hypervisor)
 
--- whether a place may have a parent: it is live, of the same space and resource, has permissions that include the place's own, and a depth one less
+-- whether a place may be the parent of a capability in a space: it is live, of that space and the same resource, has permissions that include the capability's own, and a
+-- depth one less
+abbrev pub parentFits : State → ℕ → Cap → ℕ → Bool
+parentFits s space cap parent =
+    ltb parent places && live (s .caps parent) && eqb (spaceOf parent) space && eqb (s .caps parent .resource) (cap .resource) &&
+    within (cap .permissions) (s .caps parent .permissions) && eqb (s .caps parent .depth + 1) (cap .depth)
+
+-- whether a place may have a parent
 abbrev pub child-place : State → ℕ → ℕ → Bool
-child-place s p parent =
-    ltb parent places && live (s .caps parent) && eqb (spaceOf parent) (spaceOf p) && eqb (s .caps parent .resource) (s .caps p .resource) &&
-    within (s .caps p .permissions) (s .caps parent .permissions) && eqb (s .caps parent .depth + 1) (s .caps p .depth)
+child-place s p parent = parentFits s (spaceOf p) (s .caps p) parent
+
+-- whether a place has a fitting parent or none
+abbrev pub lineageKeeps : State → ℕ → Bool
+lineageKeeps s p = if eqb (s .caps p .parent) 0 then parentless-place s p else child-place s p (s .caps p .parent - 1)
 
 -- 11: each live place lies in domain 0 or a domain with a PD, names a resource, has no permission above the greatest (whose bits are all the low ones, so that a number
 -- above it has another bit), and has a fitting parent or none
@@ -125,7 +134,7 @@ live-place s p =
     if live (s .caps p) then
     (eqb (domainOf p) hypervisor || hasPd s (domainOf p)) && isResource s (spaceOf p) (s .caps p .resource) &&
     leb (s .caps p .permissions) (greatest (spaceOf p) (kindOf s (s .caps p .resource))) &&
-    (if eqb (s .caps p .parent) 0 then parentless-place s p else child-place s p (s .caps p .parent - 1))
+    lineageKeeps s p
     else true
 
 -- 12: no depth exceeds 31

@@ -165,6 +165,10 @@ tables places objects = record { places = places; objects = objects }
 abbrev pub view : List ℕ → List ℕ → State
 view places objects = shown (tables places objects)
 
+-- what a place table alone shows: its places, with records that are all 0
+abbrev pub placesIn : List ℕ → State
+placesIn table = record { caps = capAt table; objects = λ number index. 0 }
+
 -- the four words of a capability
 abbrev pub capWords : Cap → List ℕ
 capWords cap = cap .resource ∷ cap .permissions ∷ cap .parent ∷ cap .depth ∷ []

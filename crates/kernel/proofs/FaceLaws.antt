@@ -9,7 +9,7 @@ use Rattle.descriptor.specs.declared.Reply.the-variants.{Damaged}
 use lib.Dec.{eqb}
 use lib.ListN.{length}
 use borrow.Author.Tests.{eqb-true}
-use Rattle.interface.specs.Places.{Tables, sized, capAt, placeTableWords, objectTableWords, tables, view}
+use Rattle.interface.specs.Places.{Tables, sized, capAt, placeTableWords, objectTableWords, tables, view, placesIn}
 use Rattle.interface.specs.Damage.{soundState, sound}
 use Rattle.interface.specs.Verdicts.{Call}
 use Rattle.interface.specs.Rules.{hypercall, after, bootTables}
@@ -20,7 +20,7 @@ use Rattle.interface.proofs.Basics.BoolLaws.{and-left, and-right}
 use Rattle.interface.proofs.Consequences.ConsequenceLaws.{judged-once}
 use Rattle.interface.proofs.History.DemandLaws.{goes-on, shows-heirs}
 use Rattle.interface.proofs.Sound.Soundness.{sound-facts}
-use Rattle.tree.specs.Walks.{Linked, placesOnly}
+use Rattle.tree.specs.Walks.{Linked}
 use Rattle.tree.proofs.LinkLaws.{sound-linked}
 use Rattle.service.proofs.AdmissionLaws.{refused-outcome}
 
@@ -35,7 +35,7 @@ module _ (places objects : List ℕ) (place : ℕ) (list : List ℕ) where
   unfolding censusOf
   census-refused f = rw f
 
-  pub census-counted : sound (tables places objects) ≡ true → (result : CensusResult) → result ≡ counted (placesOnly places) place list →
+  pub census-counted : sound (tables places objects) ≡ true → (result : CensusResult) → result ≡ counted (placesIn places) place list →
       result ≡ censusOf (tables places objects) place list
   unfolding counted censusOf
   census-counted t result e = rw t e

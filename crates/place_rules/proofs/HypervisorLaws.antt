@@ -8,7 +8,7 @@ use borrow.Author.Tests.{ltb-true, ltb-false, lt-ltb, le-leb, eqb-true, eqb-fals
 use Rattle.words.specs.Sizes.{memory, io, object, stride, domainOf, spaceOf, records, recordWords}
 use Rattle.words.proofs.PlaceLaws.{space-small}
 use Rattle.interface.specs.Basics.{if_then_else_, allBelow}
-use Rattle.interface.specs.Places.{State, Tables, live, nothing, SM, kindWord, kindOf, shown}
+use Rattle.interface.specs.Places.{State, Tables, live, nothing, SM, kindWord, kindOf, shown, placesIn}
 use Rattle.interface.specs.Boot.{hypervisor, cpus, rootPd, rootSc, bootRecord, hypervisorCap, bootCap, boot}
 use Rattle.interface.specs.Damage.{recordAsBoot, fixed-record, fixed-place, interrupt-rule, hasPd, null-place, parentless-place, live-place, shallow}
 use Rattle.interface.proofs.Basics.BoolLaws.{cases, both, or-left, asked}
@@ -17,7 +17,7 @@ use Rattle.interface.proofs.Sound.Soundness.{OfRecords, Sound, sound-facts}
 use Rattle.interface.proofs.Sound.PlaceFacts.{boot-cap, fixed-parentless, Lineage, LivePlace, live-facts, live-test}
 use Rattle.interface.proofs.History.BootLaws.{boot-sound}
 use Rattle.record_rules.specs.RecordKeeping.{recordsIn, recordKeeps, Kept}
-use Rattle.place_rules.specs.PlaceKeeping.{placesIn, placeKeeps}
+use Rattle.place_rules.specs.PlaceKeeping.{placeKeeps}
 use Rattle.record_rules.proofs.RecordParts.{caps-apart, record-parts}
 
 at-boot : Sound boot

@@ -18,12 +18,12 @@ use Rattle.descriptor.specs.Numbers.{linked}
 use Rattle.descriptor.proofs.DescriptorLaws.{linked-out, linked-inside}
 use Rattle.interface.specs.Places.{Cap, State, Tables, live, nothing, parentless, free, SC, SM, objectAt, shown, kindOf, greatestOf, greatest}
 use Rattle.interface.specs.Boot.{hypervisor, cpus, rootPd, bootRecord, hypervisorCap, bootCap}
-use Rattle.interface.specs.Damage.{between1, sameCap, fixed-place, hasPd, null-place, isResource, live-place, shallow}
+use Rattle.interface.specs.Damage.{between1, sameCap, fixed-place, hasPd, null-place, isResource, live-place, shallow, parentFits, lineageKeeps}
 use Rattle.interface.proofs.Basics.BoolLaws.{cases, and-left, and-right, both, same-test, or-none-left, or-none-right, each-of-four}
 use Rattle.interface.proofs.Sound.PlaceFacts.{same-cap, more-live}
 use Rattle.record_rules.specs.RecordKeeping.{Numbered}
 use Rattle.record_rules.proofs.PdLaws.{home-counted}
-use Rattle.place_rules.specs.PlaceKeeping.{parentFits, lineageKeeps, greatestAllowed, placeKeeps, whole, part, partsBefore, extentOf, group, Around, Stretch, Passed}
+use Rattle.place_rules.specs.PlaceKeeping.{greatestAllowed, placeKeeps, whole, part, partsBefore, extentOf, group, Around, Stretch, Passed}
 use Rattle.place_rules.specs.declared.Extent.{Extent}
 
 -- a link word that leads to a place is one more than its number, and one that leads nowhere is 0 or past the places

@@ -1,4 +1,4 @@
--- What the functions over places cite beside the rules of damage: the rules of a place taken together, the parent of a capability, and a shorter test.
+-- What the functions over places cite beside the rules of damage: the rules of a place taken together, and a shorter test.
 use Prim.Native.Nat.{ℕ, _+_, _-_, _*_, _/_, _%_, _^_, _<_, _≤_}
 use mathlib.Core.Path.{_≡_}
 use mathlib.Core.Bool.{Bool, true, _&&_, _||_}
@@ -6,35 +6,20 @@ use mathlib.Core.List.{List}
 use lib.Dec.{eqb, leb, ltb}
 use lib.ListN.{length}
 use Rattle.words.specs.Sizes.{object, selectors, start, stride, domainOf, spaceOf, places, placeWords, records, greatestDepth}
-use Rattle.words.specs.Permissions.{within}
 use Rattle.interface.specs.Basics.{if_then_else_, word, allBelow}
-use Rattle.interface.specs.Places.{Cap, State, Tables, live, nothing, parentless, kindOf, greatestOf, greatest, placeTableWords, objectTableWords, capAt, shown}
+use Rattle.interface.specs.Places.{State, Tables, nothing, parentless, kindOf, greatestOf, greatest, placeTableWords, objectTableWords, shown}
 use Rattle.interface.specs.Boot.{hypervisor, bootCap}
-use Rattle.interface.specs.Damage.{sameCap, fixed-place, hasPd, null-place, isResource, parentless-place, live-place, shallow}
+use Rattle.interface.specs.Damage.{sameCap, fixed-place, hasPd, null-place, isResource, parentFits, live-place, shallow}
 use Rattle.record_rules.specs.RecordKeeping.{Kept}
 use Rattle.place_rules.specs.declared.Extent.{Extent}
-
--- what a place table alone shows
-abbrev pub placesIn : List ℕ → State
-placesIn table = record { caps = capAt table; objects = λ r i. 0 }
 
 -- whether a place keeps the rules of places
 unfoldable pub placeKeeps : State → ℕ → Bool
 placeKeeps s p = fixed-place s p && null-place s p && live-place s p && shallow s p
 
--- whether a place may be the parent of a capability in a space: it is live, of that space and resource, includes the permissions and has a depth one less
-abbrev pub parentFits : State → ℕ → Cap → ℕ → Bool
-parentFits s space cap parent =
-    ltb parent places && live (s .caps parent) && eqb (spaceOf parent) space && eqb (s .caps parent .resource) (cap .resource) &&
-    within (cap .permissions) (s .caps parent .permissions) && eqb (s .caps parent .depth + 1) (cap .depth)
-
 -- the greatest permissions that a capability for a number in a space may have: none where the number is no resource's
 abbrev pub greatestAllowed : State → ℕ → ℕ → ℕ
 greatestAllowed s space resource = if isResource s space resource then greatest space (kindOf s resource) else 0
-
--- whether a place has a fitting parent or none
-abbrev pub lineageKeeps : State → ℕ → Bool
-lineageKeeps s p = if eqb (s .caps p .parent) 0 then parentless-place s p else parentFits s (spaceOf p) (s .caps p) (s .caps p .parent - 1)
 
 -- a shorter test of a place outside domain 0: a live one with a parent is held against that alone, whose resource and greatest permissions are its own
 unfoldable pub quickKeeps : State → ℕ → Bool

@@ -11,14 +11,13 @@ use Rattle.words.specs.Sizes.{domains, records, blockWords}
 use Rattle.descriptor.specs.declared.Reply.{Reply}
 use Rattle.descriptor.specs.declared.Reply.the-variants.{Success, ComTim, BadCap, BadPar, BadCpu}
 use Rattle.interface.specs.Basics.{word}
-use Rattle.interface.specs.Places.{Cap, State, PT, ecWord, domainWord, cpuWord, callBit, objectPlace, permitted, capAt, objectAt, placeTable, objectTable, tables, view}
+use Rattle.interface.specs.Places.{Cap, State, PT, ecWord, domainWord, cpuWord, callBit, objectPlace, permitted, capAt, objectAt, placeTable, objectTable, tables, view, placesIn}
 use Rattle.interface.specs.Damage.{isEc}
 use Rattle.interface.specs.Effects.{run}
 use Rattle.interface.specs.Verdicts.{Call, Verdict, refuse, deliver, require_else_then_, blockOf}
 use Rattle.interface.specs.Message.{payloadFits, transfer, Moved}
 use Rattle.interface.specs.PortalCalls.{portalCall}
 use Rattle.interface.proofs.Sound.SoundFacts.{portal-ec, permitted-kind, ec-small, home, ec-home}
-use Rattle.tree.specs.Walks.{placesOnly}
 use Rattle.transfer.specs.Turns.{Transferred}
 use Rattle.transfer.proofs.UnseenLaws.{transferred-seen}
 use Rattle.capabilities.specs.Callers.{Called}
@@ -154,15 +153,15 @@ module _ {places objects source target : List ℕ} {caller selector place callee
       -- the message goes over
       pub carries : {sender receiver count : ℕ} {after block : List ℕ} → payloadFits (word source 0) ≡ true → sender ≡ objectAt objects caller domainWord →
           receiver ≡ objectAt objects callee domainWord →
-          Transferred places after block (transfer (placesOnly places) sender receiver source target) count →
+          Transferred places after block (transfer (placesIn places) sender receiver source target) count →
           Answers places objects source target caller selector after block (Success count)
       carries {sender} {receiver} {count} {after} {block} fits is-sender is-receiver done c is-caller is-selector is-source is-target =
           let granted : portalCall s c ≡ deliver (moved c .filled) (moved c .effects) (moved c .block) =
           left c is-caller is-selector is-source is-target ∙
           rw (ne-eqb callee caller apart, eq-eqb (objectAt objects callee cpuWord) (objectAt objects caller cpuWord) one-cpu, fits) in
-          let sent = subst (λ (n : ℕ). Transferred places after block (transfer (placesOnly places) n receiver source target) count) is-sender done in
+          let sent = subst (λ (n : ℕ). Transferred places after block (transfer (placesIn places) n receiver source target) count) is-sender done in
           let passed =
-          subst (λ (n : ℕ). Transferred places after block (transfer (placesOnly places) (objectAt objects caller domainWord) n source target) count) is-receiver sent in
+          subst (λ (n : ℕ). Transferred places after block (transfer (placesIn places) (objectAt objects caller domainWord) n source target) count) is-receiver sent in
           let (counted, received, state) =
           transferred-seen (objectAt objects) places (objectAt objects caller domainWord) (objectAt objects callee domainWord) source target passed in
           let is-after : after ≡ placeTable (run (moved c .effects) s) =

@@ -9,7 +9,7 @@ use lib.ListN.{length}
 use borrow.Author.Tests.{eqb-true}
 use Rattle.words.specs.Sizes.{stride, places, records}
 use Rattle.interface.specs.Basics.{allBelow}
-use Rattle.interface.specs.Places.{Cap, State, Tables, nothing, placeTableWords, objectTableWords, sized, shown}
+use Rattle.interface.specs.Places.{Cap, State, Tables, nothing, placeTableWords, objectTableWords, sized, shown, placesIn}
 use Rattle.interface.specs.Damage.{fixed-place, used-first, pdsBelow, pd-rule, soundState, sound}
 use Rattle.interface.proofs.Basics.BoolLaws.{cases, and-left, and-right, both, same-test, not-both}
 use Rattle.interface.proofs.Basics.BelowLaws.{all-below-at, all-below}
@@ -20,7 +20,7 @@ use Rattle.record_rules.specs.declared.CountedPds.the-variants.{InTurn, OutOfTu
 use Rattle.record_rules.proofs.PdLaws.{turns-kept, turns-broken}
 use Rattle.record_rules.proofs.LoopLaws.{answered-yes, answered-no}
 use Rattle.record_rules.proofs.RecordParts.{caps-apart, record-parts}
-use Rattle.place_rules.specs.PlaceKeeping.{placesIn, placeKeeps}
+use Rattle.place_rules.specs.PlaceKeeping.{placeKeeps}
 use Rattle.place_rules.proofs.PlaceTests.{place-parts}
 
 module _ (s : State) where

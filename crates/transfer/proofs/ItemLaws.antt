@@ -14,14 +14,13 @@ use Rattle.descriptor.specs.declared.Match.the-variants.{Both, Neither}
 use Rattle.descriptor.specs.declared.Received.{Received}
 use Rattle.descriptor.specs.declared.Reason.{Reason}
 use Rattle.descriptor.proofs.DescriptorLaws.{proper-end}
-use Rattle.interface.specs.Places.{State}
+use Rattle.interface.specs.Places.{State, placesIn}
 use Rattle.interface.specs.Boot.{hypervisor, root}
 use Rattle.interface.specs.RangeDescriptors.{describe, reading, matched}
 use Rattle.interface.specs.Effects.{filled}
 use Rattle.interface.specs.Message.{receivedWord, delegateBit, hypervisorBit, hotspotField, Item, sourceDomain, smallerOrder, raisedBase, delegations, delegateItem, senderPlace, translatedBase, common, translates, translateItem}
 use Rattle.interface.proofs.Basics.BoolLaws.{cases}
 use Rattle.places.specs.Table.{Sized}
-use Rattle.tree.specs.Walks.{placesOnly}
 use Rattle.windows.specs.Matching.{Matched, destinationOf}
 use Rattle.delegation.specs.Delegating.{Taken}
 use Rattle.delegation.proofs.DelegateLaws.{filled-few, running-none, running-taken}
@@ -57,7 +56,7 @@ module _ (sender receiver second : ℕ) (item window : Range) {before after : Li
   taken-there = rw (f, h) at t
 
   pub delegated-none : filled ≡ 0 →
-      Done before after (delegateItem (placesOnly before) sender receiver second (Both item window)) (record { word = 0; filled = 0 })
+      Done before after (delegateItem (placesIn before) sender receiver second (Both item window)) (record { word = 0; filled = 0 })
   unfolding delegateItem
   delegated-none e =
       record {
@@ -67,22 +66,22 @@ module _ (sender receiver second : ℕ) (item window : Range) {before after : Li
       }
 
   pub delegated-some : {range : Range} {word : ℕ} → Matched item window → (filled ≡ 0 → ⊥) → range ≡ destinationOf hotspot item window → word ≡ describe range →
-      Done before after (delegateItem (placesOnly before) sender receiver second (Both item window)) (record { word = word; filled = filled })
+      Done before after (delegateItem (placesIn before) sender receiver second (Both item window)) (record { word = word; filled = filled })
   unfolding delegateItem
   delegated-some {range} {word} pair n r w =
       record {
         shown = rw (ne-eqb _ 0 (λ e. n (taken-there .fills ∙ e)), w, r, h);
         taken = taken-there;
-        few = rw (taken-there .fills) (delegations-few (sourceDomain sender second) receiver (hotspotField second) item window (placesOnly before) pair);
+        few = rw (taken-there .fills) (delegations-few (sourceDomain sender second) receiver (hotspotField second) item window (placesIn before) pair);
       }
 
 -- an item, by what its descriptors are read as
 module _ (table : List ℕ) (sender receiver descriptor second translating delegating : ℕ) where
   abbrev the-item : Item
-  the-item = itemBy (placesOnly table) sender receiver descriptor second translating delegating
+  the-item = itemBy (placesIn table) sender receiver descriptor second translating delegating
 
   module _ {match : Match} (bit : second % 2 ≡ 1) (m : match ≡ matched (reading descriptor) (reading delegating)) where
-    is-delegated : the-item ≡ delegateItem (placesOnly table) sender receiver second match
+    is-delegated : the-item ≡ delegateItem (placesIn table) sender receiver second match
     is-delegated = rw (eq-eqb (delegateBit second) 1 (omega arith), m)
 
     pub delegated-null : (reason : Reason) → match ≡ Neither reason → Sized table → Done table table the-item (record { word = 0; filled = 0 })
@@ -90,11 +89,11 @@ module _ (table : List ℕ) (sender receiver descriptor second translating deleg
     delegated-null reason e sized = rw (is-delegated, e) (record { shown = refl; taken = taken-none sized; few = omega arith })
 
     pub delegated-both : {item window : Range} {after : List ℕ} {outcome : Outcome} → match ≡ Both item window →
-        Done table after (delegateItem (placesOnly table) sender receiver second (Both item window)) outcome → Done table after the-item outcome
+        Done table after (delegateItem (placesIn table) sender receiver second (Both item window)) outcome → Done table after the-item outcome
     delegated-both e d = rw (is-delegated, e) d
 
   module _ {match : Match} (bit : second % 2 ≡ 1 → ⊥) (m : match ≡ matched (reading descriptor) (reading translating)) where
-    is-translated : the-item ≡ translateItem (placesOnly table) sender receiver match
+    is-translated : the-item ≡ translateItem (placesIn table) sender receiver match
     is-translated = rw (ne-eqb (delegateBit second) 1 (λ e. bit (omega arith)), m)
 
     pub translated-null : (reason : Reason) → match ≡ Neither reason → Sized table → Done table table the-item (record { word = 0; filled = 0 })
@@ -102,7 +101,7 @@ module _ (table : List ℕ) (sender receiver descriptor second translating deleg
     translated-null reason e sized = rw (is-translated, e) (record { shown = refl; taken = taken-none sized; few = omega arith })
 
     pub translated-both : {item window : Range} {received : Received} {word : ℕ} → match ≡ Both item window →
-        received ≡ translateItem (placesOnly table) sender receiver (Both item window) .received → word ≡ receivedWord received → Sized table →
+        received ≡ translateItem (placesIn table) sender receiver (Both item window) .received → word ≡ receivedWord received → Sized table →
         Done table table the-item (record { word = word; filled = 0 })
     unfolding translateItem
     translated-both e r w sized = rw (is-translated, e) (record { shown = rw (w, r); taken = taken-none sized; few = omega arith })

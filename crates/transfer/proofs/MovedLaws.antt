@@ -10,13 +10,12 @@ use lib.Seq.{take-all, drop-length, length-take-le}
 use borrow.Rule.Slice.PartMut.{putMid, post-is}
 use Rattle.words.specs.Sizes.{object, selectors, domains, blockWords}
 use Rattle.interface.specs.Basics.{word}
-use Rattle.interface.specs.Places.{State, capAt, capTable}
+use Rattle.interface.specs.Places.{State, capAt, capTable, placesIn}
 use Rattle.interface.specs.Effects.{run, filled}
 use Rattle.interface.specs.Message.{headWords, untypedCount, typedCount, translateWindow, delegateWindow, itemWords, descriptorAt, secondAt, delegateBit, receivedWord, Item, Moved, itemOf, untypedCopied, carried, transfer}
 use Rattle.interface.proofs.Tables.TurnLaws.{run-append}
 use Rattle.places.specs.Table.{Sized}
 use Rattle.places.proofs.CapTableLaws.{length-cap-table, cap-table-back}
-use Rattle.tree.specs.Walks.{placesOnly}
 use Rattle.blocks.specs.Fitting.{Blocks}
 use Rattle.blocks.proofs.BlockLaws.{counts-fit, copied-length}
 use Rattle.delegation.specs.Delegating.{LiveLinks}
@@ -32,9 +31,9 @@ pub record Moving (start : List ℕ) (sender receiver : ℕ) (source upper₀ : 
   pub inside : i ≤ typed
   pub few : count ≤ selectors object * i
   pub same-length : length upper ≡ length upper₀
-  pub shows : placesOnly table ≡ run (movedBy (placesOnly start) sender receiver source translating delegating upper₀ i .effects) (placesOnly start)
-  pub fills : count ≡ movedBy (placesOnly start) sender receiver source translating delegating upper₀ i .filled
-  pub receives : upper ≡ movedBy (placesOnly start) sender receiver source translating delegating upper₀ i .block
+  pub shows : placesIn table ≡ run (movedBy (placesIn start) sender receiver source translating delegating upper₀ i .effects) (placesIn start)
+  pub fills : count ≡ movedBy (placesIn start) sender receiver source translating delegating upper₀ i .filled
+  pub receives : upper ≡ movedBy (placesIn start) sender receiver source translating delegating upper₀ i .block
 
 pub moving-begins : {start : List ℕ} {sender receiver : ℕ} {source upper : List ℕ} {typed : ℕ} (translating delegating : ℕ) → Sized start → LiveLinks (capAt start) →
     Ready sender receiver source upper typed → Moving start sender receiver source upper typed translating delegating start upper 0 0
@@ -55,39 +54,39 @@ moving-begins translating delegating sized links ready =
 module _ {start : List ℕ} {sender receiver : ℕ} {source upper₀ : List ℕ} {typed translating delegating : ℕ} {table upper : List ℕ} {count i : ℕ}
     (g : Moving start sender receiver source upper₀ typed translating delegating table upper count i) where
   abbrev so-far : Moved
-  so-far = movedBy (placesOnly start) sender receiver source translating delegating upper₀ i
+  so-far = movedBy (placesIn start) sender receiver source translating delegating upper₀ i
 
   abbrev present : State → Item
   present s = itemBy s sender receiver (word source (descriptorAt i)) (word source (secondAt i)) translating delegating
 
   -- one more item, whose words are stored
-  pub moving-on : {after : List ℕ} {outcome : Outcome} → i < typed → Done table after (present (placesOnly table)) outcome →
+  pub moving-on : {after : List ℕ} {outcome : Outcome} → i < typed → Done table after (present (placesIn table)) outcome →
       Moving start sender receiver source upper₀ typed translating delegating after
       (set (set upper (length upper₀ - 1 - itemWords * i) (outcome .word)) (length upper₀ - 2 - itemWords * i) (word source (secondAt i) % 2))
       (count + outcome .filled) (i + 1)
   unfolding movedBy
   moving-on {after} {outcome} l done =
-      let now = run (so-far .effects) (placesOnly start) in
+      let now = run (so-far .effects) (placesIn start) in
       let there : Done table after (present now) outcome = subst (λ (s : State). Done table after (present s) outcome) (g .shows) done in
       let taken = there .taken in
       let bit : word source (secondAt i) % 2 ≡ delegateBit (word source (secondAt i)) = omega arith in
       rw (add-one i)
       (record {
         ready = g .ready;
-        sized = rw (taken .leaves) (length-cap-table (run (present now .effects) (placesOnly table) .caps));
+        sized = rw (taken .leaves) (length-cap-table (run (present now .effects) (placesIn table) .caps));
         live-links = taken .links-stay (g .live-links);
         inside = omega arith;
         few = omega (arith, there .few, g .few);
         same-length = simp length-set (g .same-length);
         shows =
             taken .shows ∙ ap (run (present now .effects)) (g .shows) ∙
-            sym (run-append (so-far .effects) (present now .effects) (placesOnly start));
+            sym (run-append (so-far .effects) (present now .effects) (placesIn start));
         fills = rw (g .fills, taken .fills) (ap (λ (s : State). so-far .filled + filled (present now .effects) s) (g .shows));
         receives = rw (g .receives, there .shown, bit);
       })
 
   -- once every item is done
-  pub moving-ends : typed ≤ i → Transferred start table upper (movedBy (placesOnly start) sender receiver source translating delegating upper₀ typed) count
+  pub moving-ends : typed ≤ i → Transferred start table upper (movedBy (placesIn start) sender receiver source translating delegating upper₀ typed) count
   moving-ends l =
       let all : i ≡ typed = omega (arith, g .inside) in
       rw (sym all)
@@ -179,11 +178,11 @@ module _ {source target block : List ℕ} {untyped typed : ℕ} (b : Blocks sour
   -- the items' transfer is the message's
   pub message-done : (sender receiver : ℕ) {before after upper : List ℕ} {count : ℕ} →
       Transferred before after upper
-      (movedBy (placesOnly before) sender receiver source (word target translateWindow) (word target delegateWindow) (take (length block - low) (drop low block)) typed) count →
-      Transferred before after (putMid low (length block - low) block upper) (transfer (placesOnly before) sender receiver source target) count
+      (movedBy (placesIn before) sender receiver source (word target translateWindow) (word target delegateWindow) (take (length block - low) (drop low block)) typed) count →
+      Transferred before after (putMid low (length block - low) block upper) (transfer (placesIn before) sender receiver source target) count
   message-done sender receiver {before} {after} {upper} {count} done =
       let there = rw (uppers, is-block) at done in
-      let is-whole = carried-moved (placesOnly before) sender receiver source target low copied-full (omega (arith, counts)) typed counts in
+      let is-whole = carried-moved (placesIn before) sender receiver source target low copied-full (omega (arith, counts)) typed counts in
       rw (sym t, is-whole)
       (record {
         leaves = there .leaves;

@@ -8,12 +8,11 @@ use Rattle.words.specs.Sizes.{placeOf}
 use Rattle.descriptor.specs.declared.Match.{Match}
 use Rattle.descriptor.specs.declared.Match.the-variants.{Both, Neither}
 use Rattle.interface.specs.Basics.{if_then_else_, word, listed}
-use Rattle.interface.specs.Places.{State}
+use Rattle.interface.specs.Places.{State, placesIn}
 use Rattle.interface.specs.RangeDescriptors.{reading, matched}
 use Rattle.interface.specs.Effects.{Effect, fills, act, run, filled}
 use Rattle.interface.specs.Message.{typedCount, translateWindow, delegateWindow, descriptorAt, secondAt, delegateBit, hotspotField, Item, sourceDomain, smallerOrder, raisedBase, delegateItem, translateItem, itemOf, carried, transfer}
 use Rattle.interface.proofs.Tables.TurnLaws.{run-append, gives}
-use Rattle.tree.specs.Walks.{placesOnly}
 use Rattle.delegation.proofs.DelegateLaws.{run-more, filled-more}
 use Rattle.transfer.specs.Turns.{Transferred}
 
@@ -100,12 +99,12 @@ module _ (objects : ℕ → ℕ → ℕ) where
 
   -- a transfer that is done, seen with the objects
   pub transferred-seen : (table : List ℕ) (sender receiver : ℕ) (source target : List ℕ) {after received : List ℕ} {count : ℕ} →
-      Transferred table after received (transfer (placesOnly table) sender receiver source target) count →
-      (count ≡ transfer (seen (placesOnly table)) sender receiver source target .filled) ×
-      (received ≡ transfer (seen (placesOnly table)) sender receiver source target .block) ×
-      (seen (placesOnly after) ≡ run (transfer (seen (placesOnly table)) sender receiver source target .effects) (seen (placesOnly table)))
+      Transferred table after received (transfer (placesIn table) sender receiver source target) count →
+      (count ≡ transfer (seen (placesIn table)) sender receiver source target .filled) ×
+      (received ≡ transfer (seen (placesIn table)) sender receiver source target .block) ×
+      (seen (placesIn after) ≡ run (transfer (seen (placesIn table)) sender receiver source target .effects) (seen (placesIn table)))
   transferred-seen table sender receiver source target done =
-      let (same, runs) = unseen-carried (placesOnly table) sender receiver source target (typedCount (word source 0)) in (
+      let (same, runs) = unseen-carried (placesIn table) sender receiver source target (typedCount (word source 0)) in (
         rw same (done .fills),
         rw same (done .receives),
         rw (same, runs) (ap seen (done .shows)),

@@ -5,10 +5,9 @@ use mathlib.Core.List.{List, [], _++_}
 use lib.ListN.{length, set}
 use Rattle.words.specs.Sizes.{domains, blockWords}
 use Rattle.interface.specs.Basics.{word}
-use Rattle.interface.specs.Places.{State, capAt, capTable}
+use Rattle.interface.specs.Places.{State, capAt, capTable, placesIn}
 use Rattle.interface.specs.Effects.{run, filled}
 use Rattle.interface.specs.Message.{payloadWords, itemWords, descriptorAt, secondAt, delegateBit, receivedWord, Moved}
-use Rattle.tree.specs.Walks.{placesOnly}
 use Rattle.delegation.specs.Delegating.{LiveLinks}
 use Rattle.transfer.specs.Typed.{itemBy}
 
@@ -37,8 +36,8 @@ movedBy s sender receiver source translating delegating upper (suc i) =
 
 -- a transfer that is done: the table it leaves, what it shows, the places filled, the words received, and that the links are live still
 pub record Transferred (before after received : List ℕ) (moved : Moved) (count : ℕ) : Type 0 where
-  pub leaves : after ≡ capTable (run (moved .effects) (placesOnly before) .caps)
-  pub shows : placesOnly after ≡ run (moved .effects) (placesOnly before)
+  pub leaves : after ≡ capTable (run (moved .effects) (placesIn before) .caps)
+  pub shows : placesIn after ≡ run (moved .effects) (placesIn before)
   pub fills : count ≡ moved .filled
   pub receives : received ≡ moved .block
   pub live-links : LiveLinks (capAt after)

@@ -6,10 +6,10 @@ ghost use Rattle.descriptor.specs.declared.Range.{Range};
 ghost use Rattle.descriptor.specs.declared.Match.the-variants.{Both};
 ghost use Rattle.descriptor.specs.declared.Received.the-variants.{Shows};
 ghost use Rattle.descriptor.specs.Descriptors.{null, Proper};
-ghost use Rattle.interface.specs.Places.{capAt};
+ghost use Rattle.interface.specs.Places.{capAt, placesIn};
 ghost use Rattle.interface.specs.Message.{receivedWord, sourceDomain, delegateItem, transfer};
 ghost use Rattle.places.specs.Table.{Sized};
-ghost use Rattle.tree.specs.Walks.{Linked, placesOnly};
+ghost use Rattle.tree.specs.Walks.{Linked};
 ghost use Rattle.blocks.specs.Fitting.{Blocks};
 ghost use Rattle.windows.specs.Matching.{Matched};
 ghost use Rattle.delegation.specs.Delegating.{LiveLinks};
@@ -75,7 +75,7 @@ fn delegate_item(
     window: Range,
 ) -> Outcome
     requires { ⌜ Sized (now table) × (sender < domains) × (receiver < domains) × Matched item window ⌝ }
-    ensures { λ r. ⌜ Done (now (table .entry)) (now (table .exit)) (delegateItem (placesOnly (now (table .entry))) sender receiver second (Both item window)) r ⌝ }
+    ensures { λ r. ⌜ Done (now (table .entry)) (now (table .exit)) (delegateItem (placesIn (now (table .entry))) sender receiver second (Both item window)) r ⌝ }
 {
     let hotspot = second >> 12;
     let filled = delegation::delegate(
@@ -106,7 +106,7 @@ fn item(
     delegating: u32,
 ) -> Outcome
     requires { ⌜ Sized (now table) × Linked (capAt (now table)) × (sender < domains) × (receiver < domains) ⌝ }
-    ensures { λ r. ⌜ Done (now (table .entry)) (now (table .exit)) (itemBy (placesOnly (now (table .entry))) sender receiver descriptor second translating delegating) r ⌝ }
+    ensures { λ r. ⌜ Done (now (table .entry)) (now (table .exit)) (itemBy (placesIn (now (table .entry))) sender receiver descriptor second translating delegating) r ⌝ }
 {
     if second % 2 == 1 {
         return match windows::matching(descriptor, delegating) {
@@ -144,7 +144,7 @@ fn items(
     requires { ⌜ Sized (now table) × LiveLinks (capAt (now table)) × Ready sender receiver (now source) (now upper) typed ⌝ }
     ensures { λ r. ⌜
         Transferred (now (table .entry)) (now (table .exit)) (now (upper .exit))
-        (movedBy (placesOnly (now (table .entry))) sender receiver (now (source .entry)) translating delegating (now (upper .entry)) typed) r ⌝ }
+        (movedBy (placesIn (now (table .entry))) sender receiver (now (source .entry)) translating delegating (now (upper .entry)) typed) r ⌝ }
 {
     let top = upper.len();
     let mut filled = 0u32;
@@ -181,7 +181,7 @@ pub fn message(
     requires { ⌜ Sized (now table) × LiveLinks (capAt (now table)) × (sender < domains) × (receiver < domains) × Blocks (now source) (now target) ⌝ }
     ensures { λ r. ⌜
         Transferred (now (table .entry)) (now (table .exit)) (now (target .exit))
-        (transfer (placesOnly (now (table .entry))) sender receiver (now (source .entry)) (now (target .entry))) r ⌝ }
+        (transfer (placesIn (now (table .entry))) sender receiver (now (source .entry)) (now (target .entry))) r ⌝ }
 {
     let word0 = source[0];
     let translating = target[TRANSLATE_WINDOW];

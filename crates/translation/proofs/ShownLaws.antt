@@ -11,10 +11,9 @@ use Rattle.descriptor.specs.declared.Received.{Received}
 use Rattle.descriptor.specs.declared.Received.the-variants.{NullItem, Shows}
 use Rattle.descriptor.specs.declared.Reason.the-variants.{TranslationBroke}
 use Rattle.descriptor.specs.Descriptors.{Proper}
-use Rattle.interface.specs.Places.{Cap, capAt}
+use Rattle.interface.specs.Places.{Cap, capAt, placesIn}
 use Rattle.interface.specs.Message.{senderPlace, translatedBase, common, translates, translateItem}
 use Rattle.interface.proofs.Basics.BoolLaws.{cases}
-use Rattle.tree.specs.Walks.{placesOnly}
 use Rattle.windows.specs.Matching.{Matched}
 use Rattle.windows.proofs.WindowLaws.{window-ends}
 use Rattle.translation.proofs.TranslateLaws.{shown-aligned, shown-ends}
@@ -27,7 +26,7 @@ common-le mask (suc n) caps = omega (arith, common-le mask n caps, and-le-l (com
 
 -- a range that a translated item shows is proper
 pub translated-proper : (table : List ℕ) (sender receiver : ℕ) (item window : Range) → Matched item window → {received : Received} →
-    received ≡ translateItem (placesOnly table) sender receiver (Both item window) .received → (range : Range) → received ≡ Shows range → Proper range
+    received ≡ translateItem (placesIn table) sender receiver (Both item window) .received → (range : Range) → received ≡ Shows range → Proper range
 unfolding translateItem
 translated-proper table sender receiver item window m e range shows =
     let caps = capAt table in

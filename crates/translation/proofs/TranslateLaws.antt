@@ -25,13 +25,13 @@ use Rattle.descriptor.specs.Numbers.{linked as placeLinked}
 use Rattle.descriptor.specs.Descriptors.{Proper}
 use Rattle.descriptor.proofs.DescriptorLaws.{linked-out, linked-inside}
 use Rattle.interface.specs.Basics.{if_then_else_, allBelow}
-use Rattle.interface.specs.Places.{Cap, capAt}
+use Rattle.interface.specs.Places.{Cap, capAt, placesIn}
 use Rattle.interface.specs.Effects.{chain, ancestors, among}
 use Rattle.interface.specs.Message.{nearest, common, inside, senderPlace, ancestorAt, translatedBase, translates, translateItem}
 use Rattle.interface.proofs.Basics.BoolLaws.{cases, not-both, and-left, and-right, both, each-of-four}
 use Rattle.interface.proofs.Basics.BelowLaws.{all-below-at, all-below, below-suc}
 use Rattle.places.specs.Table.{Sized}
-use Rattle.tree.specs.Walks.{Linked, firstAmong, placesOnly}
+use Rattle.tree.specs.Walks.{Linked, firstAmong}
 use Rattle.tree.proofs.LinkLaws.{nearest-first-among}
 use Rattle.windows.specs.Matching.{Matched}
 use Rattle.translation.specs.Translating.{liesThere}
@@ -193,7 +193,7 @@ search-begins {item = item} pre o z b m =
 module _ {table : List ℕ} {sender receiver : ℕ} {item window : Range} {order size base mask i : ℕ}
     (s : Searching table sender receiver item window order size base mask i) where
   abbrev answer : Received
-  answer = translateItem (placesOnly table) sender receiver (Both item window) .received
+  answer = translateItem (placesIn table) sender receiver (Both item window) .received
 
   abbrev shown : ℕ
   shown = translatedBase (capAt table) sender receiver item

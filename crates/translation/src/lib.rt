@@ -7,10 +7,10 @@ ghost use Rattle.descriptor.specs.declared.Match.the-variants.{Both};
 ghost use Rattle.descriptor.specs.Numbers.{linked};
 ghost use Rattle.descriptor.specs.Descriptors.{Proper};
 ghost use Rattle.interface.specs.Basics.{if_then_else_};
-ghost use Rattle.interface.specs.Places.{capAt};
+ghost use Rattle.interface.specs.Places.{capAt, placesIn};
 ghost use Rattle.interface.specs.Message.{nearest, senderPlace, translateItem};
 ghost use Rattle.places.specs.Table.{Sized};
-ghost use Rattle.tree.specs.Walks.{Linked, placesOnly};
+ghost use Rattle.tree.specs.Walks.{Linked};
 ghost use Rattle.windows.specs.Matching.{Matched};
 ghost use Rattle.translation.specs.Translating.{liesThere};
 use descriptor::FoundPlace;
@@ -65,7 +65,7 @@ fn lies_there(selector: u32, base: u32, order: u32, offset: u32, window: Range) 
 // What the receiver is shown of an item that it is to have already: the range of the nearest ancestors. The first offset that has none, or whose one lies elsewhere, ends the search.
 pub fn translate(table: &[u32], sender: u32, receiver: u32, item: Range, window: Range) -> Received
     requires { ⌜ Sized (now table) × Linked (capAt (now table)) × (sender < domains) × (receiver < domains) × Matched item window ⌝ }
-    ensures { λ r. ⌜ r ≡ translateItem (placesOnly (now (table .entry))) sender receiver (Both item window) .received ⌝ }
+    ensures { λ r. ⌜ r ≡ translateItem (placesIn (now (table .entry))) sender receiver (Both item window) .received ⌝ }
 {
     let order = item.order();
     let size = ranges::size(order);

@@ -14,13 +14,13 @@ use Rattle.descriptor.specs.declared.FoundPlace.the-variants.{At, Nowhere}
 use Rattle.descriptor.specs.declared.Reply.the-variants.{Success, BadPar, BadCap, Short}
 use Rattle.descriptor.specs.Numbers.{placed}
 use Rattle.descriptor.proofs.DescriptorLaws.{placed-at, placed-inside}
-use Rattle.interface.specs.Places.{Cap, live, capAt}
+use Rattle.interface.specs.Places.{Cap, live, capAt, placesIn}
 use Rattle.interface.specs.Effects.{below}
 use Rattle.interface.specs.Census.{descendants, counted}
 use Rattle.interface.proofs.Basics.BoolLaws.{cases}
 use Rattle.interface.proofs.Basics.GatherLaws.{gather-same}
 use Rattle.marks.specs.PlaceBits.{bitAt, markedPlaces}
-use Rattle.tree.specs.Walks.{InSpace, Marked, placesOnly}
+use Rattle.tree.specs.Walks.{InSpace, Marked}
 
 -- the marked places are the descendants of the place that the marks were found for
 pub marked-descendants : (caps : ℕ → Cap) (place : ℕ) {marks : List ℕ} → Marked (below caps place 1) marks → markedPlaces marks ≡ descendants caps place
@@ -54,7 +54,7 @@ module _ (place : ℕ) {found : FoundPlace} (is-found : found ≡ placed place) 
 
 -- the ways out of a census
 module _ (table : List ℕ) (place : ℕ) (list : List ℕ) {found : FoundPlace} (is-found : found ≡ placed place) where
-  pub counts-beyond : found ≡ Nowhere → record { reply = BadPar; list = list } ≡ counted (placesOnly table) place list
+  pub counts-beyond : found ≡ Nowhere → record { reply = BadPar; list = list } ≡ counted (placesIn table) place list
   unfolding counted
   counts-beyond none = rw (le-leb places place (past-places place is-found none))
 
@@ -65,7 +65,7 @@ module _ (table : List ℕ) (place : ℕ) (list : List ℕ) {found : FoundPlace}
     is-live : live (capAt table place) ≡ alive
     is-live = sym (is-alive ∙ ap live (is-cap ∙ ap (capAt table) (named-inside place is-found at there .0)))
 
-    pub counts-null : not alive ≡ true → record { reply = BadCap; list = list } ≡ counted (placesOnly table) place list
+    pub counts-null : not alive ≡ true → record { reply = BadCap; list = list } ≡ counted (placesIn table) place list
     unfolding counted
     counts-null t = rw (is-place, is-live, not-true alive t)
 
@@ -73,7 +73,7 @@ module _ (table : List ℕ) (place : ℕ) (list : List ℕ) {found : FoundPlace}
       is-count : count ≡ length (descendants (capAt table) place)
       is-count = rw (named-inside place is-found at there .0) at counted-there
 
-      pub counts-short : length list < count → record { reply = Short count; list = list } ≡ counted (placesOnly table) place list
+      pub counts-short : length list < count → record { reply = Short count; list = list } ≡ counted (placesIn table) place list
       unfolding counted
       counts-short l =
           let short : length list < length (descendants (capAt table) place) = rw is-count at l in
@@ -81,7 +81,7 @@ module _ (table : List ℕ) (place : ℕ) (list : List ℕ) {found : FoundPlace}
 
       pub counts-all : {after : List ℕ} → count ≤ length list →
           after ≡ descendants (capAt table) (at .0) ++ drop (length (descendants (capAt table) (at .0))) list →
-          record { reply = Success count; list = after } ≡ counted (placesOnly table) place list
+          record { reply = Success count; list = after } ≡ counted (placesIn table) place list
       unfolding counted
       counts-all l filled =
           let e = rw (named-inside place is-found at there .0) at filled in

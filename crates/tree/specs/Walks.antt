@@ -7,7 +7,7 @@ use lib.ListN.{length}
 use mathlib.Core.List.{List, [], _∷_}
 use Rattle.words.specs.Sizes.{places, spaceOf}
 use Rattle.interface.specs.Basics.{if_then_else_, allBelow}
-use Rattle.interface.specs.Places.{Cap, State, capAt}
+use Rattle.interface.specs.Places.{Cap, capAt}
 use Rattle.interface.specs.Effects.{among, below, stripped}
 use Rattle.marks.specs.PlaceBits.{markWords, bitAt}
 use Rattle.places.specs.Table.{Sized}
@@ -51,7 +51,3 @@ pub record Marking (table : List ℕ) (first size walked : ℕ) (known marks : L
 -- a mask's permissions removed where a test says so
 unfoldable pub strippedWhere : (ℕ → Bool) → ℕ → (ℕ → Cap) → (ℕ → Cap)
 strippedWhere test mask caps place = if test place then stripped mask (caps place) else caps place
-
--- a state that shows a place table; what is read of it here does not look at the objects
-abbrev pub placesOnly : List ℕ → State
-placesOnly table = record { caps = capAt table; objects = λ number index. 0 }

@@ -5,12 +5,12 @@ ghost use mathlib.Core.Bool.{false};
 ghost use lib.ListN.{length};
 ghost use Rattle.words.specs.Sizes.{places};
 ghost use Rattle.interface.specs.Basics.{put};
-ghost use Rattle.interface.specs.Places.{capAt, capTable};
+ghost use Rattle.interface.specs.Places.{capAt, capTable, placesIn};
 ghost use Rattle.interface.specs.Effects.{ancestors, below, stripped, cutCaps};
 ghost use Rattle.interface.specs.Census.{counted};
 ghost use Rattle.marks.specs.PlaceBits.{wordBits, markWords, bitAt};
 ghost use Rattle.places.specs.Table.{Sized};
-ghost use Rattle.tree.specs.Walks.{Linked, InSpace, firstAmong, Marked, Marking, strippedWhere, parentlessFrom, placesOnly};
+ghost use Rattle.tree.specs.Walks.{Linked, InSpace, firstAmong, Marked, Marking, strippedWhere, parentlessFrom};
 use descriptor::Cap;
 use descriptor::FoundPlace;
 use descriptor::Place;
@@ -257,7 +257,7 @@ fn strip(table: &mut [u32], place: Place, mask: u32)
 // The census of a place on sound tables: its strict descendants in the list, rising, and their number.
 pub fn census(place: u32, table: &[u32], list: &mut [u32]) -> Reply
     requires { ⌜ Sized (now table) × Linked (capAt (now table)) ⌝ }
-    ensures { λ r. ⌜ record { reply = r; list = now (list .exit) } ≡ counted (placesOnly (now (table .entry))) place (now (list .entry)) ⌝ }
+    ensures { λ r. ⌜ record { reply = r; list = now (list .exit) } ≡ counted (placesIn (now (table .entry))) place (now (list .entry)) ⌝ }
 {
     let FoundPlace::At(at) = Place::found(place) else {
         return Reply::BadPar;

@@ -10,7 +10,7 @@ use Rattle.words.proofs.PlaceLaws.{space-small}
 use Rattle.interface.specs.Basics.{if_then_else_}
 use Rattle.interface.specs.Places.{State, live, free, PD, EC, SC, PT, kindWord, domainWord, cpuWord, eventBaseWord, ecWord, priorityWord, quantumWord, kindOf, greatest}
 use Rattle.interface.specs.Boot.{hypervisor, cpus}
-use Rattle.interface.specs.Damage.{fixed-record, fixed-place, interrupt-rule, unnamed-rule, used-first, pdsBelow, pd-rule, hasPd, isEc, ec-rule, between1, sc-rule, pt-rule, null-place, isResource, parentless-place, child-place, live-place, shallow}
+use Rattle.interface.specs.Damage.{fixed-record, fixed-place, interrupt-rule, unnamed-rule, used-first, pdsBelow, pd-rule, hasPd, isEc, ec-rule, between1, sc-rule, pt-rule, null-place, isResource, lineageKeeps, live-place, shallow}
 use Rattle.interface.proofs.Basics.BoolLaws.{cases, and-left, and-right, or-second, guarded, guarded-first}
 use Rattle.interface.proofs.Basics.BelowLaws.{any-below-at, any-below, count-below-same}
 use Rattle.interface.proofs.Sound.Soundness.{Sound}
@@ -188,7 +188,7 @@ module _ (number : ℕ) (s t : State) (d : DiffersAt number s t) where
       (live-tests (live cap) (home || hasPd s (domainOf p)) (home || hasPd t (domainOf p)) (isResource s (spaceOf p) (cap .resource))
       (isResource t (spaceOf p) (cap .resource)) (leb (cap .permissions) (greatest (spaceOf p) (kindOf s (cap .resource))))
       (leb (cap .permissions) (greatest (spaceOf p) (kindOf t (cap .resource))))
-      (if eqb (cap .parent) 0 then parentless-place s p else child-place s p (cap .parent - 1))
+      (lineageKeeps s p)
       (or-second home (hasPd s (domainOf p)) (hasPd t (domainOf p)) (has-pd-stays (domainOf p))) (named-stays (spaceOf p) (cap .resource))
       (λ (is : isResource s (spaceOf p) (cap .resource) ≡ true).
       ap (leb (cap .permissions))

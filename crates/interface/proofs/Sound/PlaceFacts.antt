@@ -1,7 +1,7 @@
 -- Places as facts: what the rules of damage say of null places, places of domain 0 and live places, and of the records they rest on; from tests to facts, and back.
 use Prim.Native.Nat.{ℕ, suc, _+_, _-_, _≤_, _<_}
 use mathlib.Core.Path.{_≡_}
-use mathlib.Core.Bool.{Bool, true, false, _&&_, _||_}
+use mathlib.Core.Bool.{true, false, _&&_, _||_}
 use native.Mathlib.Omega.{arith}
 use lib.Dec.{eqb, leb, ltb}
 use borrow.Author.Tests.{ltb-true, lt-ltb, leb-true, le-leb, eqb-true, eqb-false, eq-eqb, ne-eqb}
@@ -11,7 +11,7 @@ use Rattle.words.proofs.BitLaws.{within-le}
 use Rattle.interface.specs.Basics.{if_then_else_, allBelow}
 use Rattle.interface.specs.Places.{Cap, State, live, nothing, free, PD, SM, domainWord, namedWords, kindOf, greatest}
 use Rattle.interface.specs.Boot.{hypervisor, rootPd, hypervisorCap, bootCap, boot}
-use Rattle.interface.specs.Damage.{sameCap, fixed-place, unnamed-rule, pdsBelow, pd-rule, hasPd, null-place, isResource, parentless-place, child-place, live-place, shallow}
+use Rattle.interface.specs.Damage.{sameCap, fixed-place, unnamed-rule, pdsBelow, pd-rule, hasPd, null-place, isResource, parentless-place, child-place, lineageKeeps, live-place, shallow}
 use Rattle.interface.proofs.Basics.BoolLaws.{cases, and-left, and-right, each-of-four}
 use Rattle.interface.proofs.Basics.BelowLaws.{any-below-at}
 use Rattle.interface.proofs.Sound.Soundness.{Sound}
@@ -124,11 +124,8 @@ child-test s p q c =
       eq-eqb (s .caps q .depth + 1) (s .caps p .depth) (c .deeper),
     )
 
--- whether a place has a fitting parent or none
-abbrev fitting : State → ℕ → Bool
-fitting s p = if eqb (s .caps p .parent) 0 then parentless-place s p else child-place s p (s .caps p .parent - 1)
-
-lineage-facts : (s : State) (p : ℕ) → fitting s p ≡ true → Lineage s p
+-- the test of a place's lineage, to the facts and back
+lineage-facts : (s : State) (p : ℕ) → lineageKeeps s p ≡ true → Lineage s p
 lineage-facts s p h =
     cases (eqb (s .caps p .parent) 0)
     (λ (t : eqb (s .caps p .parent) 0 ≡ true). no-parent (eqb-true (s .caps p .parent) 0 t) (rw t at h))
@@ -136,7 +133,7 @@ lineage-facts s p h =
     let some : s .caps p .parent ≡ 0 → ⊥ = eqb-false (s .caps p .parent) 0 f in
     child (s .caps p .parent - 1) (child-facts s p (s .caps p .parent - 1) (omega arith) (rw f at h)))
 
-lineage-test : (s : State) (p : ℕ) → Lineage s p → fitting s p ≡ true
+lineage-test : (s : State) (p : ℕ) → Lineage s p → lineageKeeps s p ≡ true
 lineage-test s p (no-parent e t) = rw (eq-eqb (s .caps p .parent) 0 e) t
 lineage-test s p (child q c) =
     let back : s .caps p .parent - 1 ≡ q = omega (arith, c .linked) in
@@ -146,7 +143,7 @@ pub live-facts : (s : State) (p : ℕ) → live-place s p ≡ true → live (s .
 unfolding live-place
 live-facts s p h l =
     let parts = each-of-four (eqb (domainOf p) hypervisor || hasPd s (domainOf p)) (isResource s (spaceOf p) (s .caps p .resource))
-    (leb (s .caps p .permissions) (greatest (spaceOf p) (kindOf s (s .caps p .resource)))) (fitting s p) (rw l at h) in
+    (leb (s .caps p .permissions) (greatest (spaceOf p) (kindOf s (s .caps p .resource)))) (lineageKeeps s p) (rw l at h) in
     record {
       home = parts .0;
       names = parts .1;

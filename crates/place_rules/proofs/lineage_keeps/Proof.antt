@@ -3,7 +3,7 @@ use mathlib.Core.Path.{_∙_}
 use native.Mathlib.Omega.{arith}
 use borrow.Author.Needs.{needs}
 use Rattle.words.proofs.PlaceLaws.{space-small}
-use Rattle.place_rules.specs.PlaceKeeping.{placesIn}
+use Rattle.interface.specs.Places.{placesIn}
 use Rattle.place_rules.proofs.PlaceTests.{extent-space, extent-own, link-small, lineage-none, lineage-parent, lineage-nowhere}
 use Rattle.place_rules.proofs.lineage_keeps.Statement.{statement}
 use Rattle.place_rules.proofs.lineage_keeps.Tie as tie

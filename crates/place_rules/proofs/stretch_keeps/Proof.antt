@@ -3,10 +3,9 @@ use Prim.Native.Nat.{_-_, _≤_}
 use mathlib.Core.Path.{_≡_, refl, sym, ap, _∙_}
 use native.Mathlib.Omega.{arith}
 use Rattle.interface.specs.Basics.{allBelow}
-use Rattle.interface.specs.Places.{Cap, nothing}
+use Rattle.interface.specs.Places.{Cap, nothing, placesIn}
 use Rattle.interface.specs.Damage.{sameCap, fixed-place}
 use Rattle.record_rules.proofs.LoopLaws.{so-far-more, so-far-done}
-use Rattle.place_rules.specs.PlaceKeeping.{placesIn}
 use Rattle.place_rules.proofs.PlaceTests.{fixed-stretch}
 use borrow.Author.Needs.{needs}
 use Rattle.place_rules.proofs.stretch_keeps.Statement.{statement}
