@@ -1,5 +1,5 @@
 -- The initial range of a new PD: one more of its delegations, and the number of the domain that it goes to.
-use Prim.Native.Nat.{ℕ, zero, suc, _+_, _≤_, _<_}
+use Prim.Native.Nat.{ℕ, _+_, _<_}
 use mathlib.Core.Path.{_≡_, refl, sym, ap, _∙_}
 use mathlib.Core.Bool.{Bool, true}
 use mathlib.Core.List.{List, []}
@@ -15,12 +15,12 @@ use Rattle.descriptor.specs.declared.Reading.{Reading}
 use Rattle.descriptor.specs.declared.Reading.the-variants.{Null, Malformed, Good}
 use Rattle.descriptor.specs.Descriptors.{reading}
 use Rattle.descriptor.proofs.DescriptorLaws.{good-proper}
-use Rattle.interface.specs.Basics.{listed, countBelow}
+use Rattle.interface.specs.Basics.{listed}
 use Rattle.interface.specs.Places.{PD, kindWord, capAt, objectAt, capTable}
 use Rattle.interface.specs.Damage.{pdsBelow}
 use Rattle.interface.specs.Effects.{givenCaps, act, run}
 use Rattle.interface.specs.Creations.{initialGood, handOn}
-use Rattle.interface.proofs.Basics.BoolLaws.{either-way}
+use Rattle.interface.proofs.Basics.LoopLaws.{count-below-small}
 use Rattle.interface.proofs.Tables.TurnLaws.{run-append}
 use Rattle.places.specs.Table.{Sized, Given}
 use Rattle.places.proofs.CapTableLaws.{cap-at-table, cap-at-end, given-end}
@@ -58,13 +58,7 @@ initial-handed word to Malformed is is-good t left = tt
 initial-handed word to (Good range) is is-good t left =
     (good-proper word range (sym is), eqb-true (range .space) object (sym is-good ∙ t), ltb-true to domains left)
 
--- no more numbers below one pass a test than there are, so the next domain's number is a word
-count-small : (n : ℕ) (test : ℕ → Bool) → countBelow n test ≤ n
-unfolding countBelow
-count-small zero test = omega arith
-count-small (suc n) test =
-    either-way (λ (k : ℕ). countBelow n test + k ≤ suc n) (test n) 1 0 (omega (arith, count-small n test)) (omega (arith, count-small n test))
-
+-- there are no more PDs than records, so the next domain's number is a word
 pub next-fits : {count : ℕ} (table : List ℕ) → count ≡ pdsBelow (recordsIn table) records → Fits w32 (count + 1)
 unfolding pdsBelow
-next-fits table e = omega (arith, count-small records (λ r. eqb (objectAt table r kindWord) PD))
+next-fits table e = omega (arith, count-below-small (λ r. eqb (objectAt table r kindWord) PD) records)

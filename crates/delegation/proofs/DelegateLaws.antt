@@ -3,7 +3,7 @@ use Prim.Native.Nat.{ℕ, zero, suc, _+_, _%_, _^_, _≤_, _<_, min}
 use mathlib.Core.Path.{_≡_, refl, sym, ap, _∙_}
 use mathlib.Core.Bool.{Bool, true, false}
 use mathlib.Core.List.{List, [], _∷_, _++_}
-use native.Mathlib.Nat.{add-assoc, add-zero}
+use native.Mathlib.Nat.{add-zero}
 use native.Mathlib.Numerals.{add-one}
 use native.Mathlib.Omega.{arith}
 use Rattle.words.specs.Sizes.{domains, selectors, placeOf}
@@ -15,7 +15,7 @@ use Rattle.interface.specs.Places.{State, capAt, capTable, placesIn}
 use Rattle.interface.specs.Effects.{Effect, give, fills, givenCaps, act, run, fillsOne, filled}
 use Rattle.interface.specs.Message.{smallerOrder, raisedBase, delegations}
 use Rattle.interface.proofs.Basics.BoolLaws.{either-way}
-use Rattle.interface.proofs.Tables.TurnLaws.{run-append, gives}
+use Rattle.interface.proofs.Tables.TurnLaws.{run-append, filled-append, gives}
 use Rattle.places.specs.Table.{Sized, Given}
 use Rattle.places.proofs.CapTableLaws.{length-cap-table, cap-at-table, cap-table-back, cap-at-end, given-end}
 use Rattle.windows.specs.Matching.{Matched}
@@ -45,12 +45,6 @@ given-places from to item window at into {before} {after} {destination} {source}
 listed-more : {A : Type 0} (n : ℕ) (f : ℕ → A) → listed (n + 1) f ≡ listed n f ++ (f n ∷ [])
 unfolding listed
 listed-more n f = rw (add-one n)
-
--- steps after steps: how many places they fill
-filled-append : (xs ys : List Effect) (s : State) → filled (xs ++ ys) s ≡ filled xs s + filled ys (run xs s)
-unfolding filled run
-filled-append [] ys s = omega arith
-filled-append (x ∷ xs) ys s = rw (filled-append xs ys (act x s)) (sym (add-assoc (fillsOne x s) (filled xs (act x s)) (filled ys (run xs (act x s)))))
 
 -- one more delegation
 pub run-more : (effects : List Effect) (destination source mask : ℕ) (s : State) →

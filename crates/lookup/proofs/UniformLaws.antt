@@ -2,7 +2,6 @@
 use Prim.Native.Nat.{ℕ, zero, suc, _+_, _-_, _^_, _≤_, _<_}
 use mathlib.Core.Path.{_≡_, sym, _∙_}
 use mathlib.Core.Bool.{Bool, true, false, _&&_}
-use native.Mathlib.Numerals.{add-one}
 use native.Mathlib.Nat.{mod-lt}
 use native.Mathlib.Omega.{arith}
 use lib.Dec.{eqb}
@@ -12,8 +11,8 @@ use Rattle.words.proofs.RangeLaws.{rounded-divides, range-ends}
 use Rattle.interface.specs.Basics.{allBelow}
 use Rattle.interface.specs.Places.{Cap, live}
 use Rattle.interface.specs.Lookup.{uniform, largest}
-use Rattle.interface.proofs.Basics.BoolLaws.{cases, both, not-both}
-use Rattle.interface.proofs.Basics.BelowLaws.{all-below-at}
+use Rattle.interface.proofs.Basics.BoolLaws.{false-not}
+use Rattle.interface.proofs.Basics.LoopLaws.{all-below-more, all-below-broken}
 
 -- a range around a selector ends in its space, and the selector lies in it
 pub around-ends : (greatest order selector : ℕ) → order ≤ greatest → selector < 2 ^ greatest → rounded order selector + 2 ^ order ≤ 2 ^ greatest
@@ -30,11 +29,6 @@ continued cap permissions resource offset = live cap && eqb (cap .permissions) p
 abbrev pub continuedAt : (ℕ → Cap) → ℕ → ℕ → ℕ → ℕ → Bool
 continuedAt caps low permissions resource offset = continued (caps (low + offset)) permissions resource offset
 
--- a test that fails below a number does not hold of all below it
-not-all-below : (n : ℕ) (test : ℕ → Bool) (i : ℕ) → i < n → test i ≡ false → allBelow n test ≡ false
-not-all-below n test i l f =
-    cases (allBelow n test) (λ (t : allBelow n test ≡ true). not-both (test i) (all-below-at n test t i l) f) (λ (g : allBelow n test ≡ false). g)
-
 -- the range of an order around a selector: its lowest selector, its size, and the permissions and the resource that its places are held to
 pub record Around (caps : ℕ → Cap) (selector order low size permissions resource : ℕ) : Type 0 where
   pub is-low : low ≡ rounded order selector
@@ -50,8 +44,9 @@ module _ {caps : ℕ → Cap} {selector order low size permissions resource : �
   -- an offset whose place does not continue the range
   pub breaks : {offset : ℕ} {cap : Cap} → offset < size → cap ≡ caps (low + offset) → continued cap permissions resource offset ≡ false →
       false ≡ uniform caps selector order
-  breaks {offset} l is-cap f =
-      sym (uniform-is ∙ not-all-below size (continuedAt caps low permissions resource) offset l (rw is-cap at f))
+  breaks {offset} {cap} l is-cap f =
+      let holds = continued cap permissions resource offset in
+      all-below-broken (continuedAt caps low permissions resource) size offset holds l (rw is-cap) (false-not holds f) ∙ sym uniform-is
 
   -- every offset
   pub all-continue : {offset : ℕ} → offset ≡ size → allBelow offset (continuedAt caps low permissions resource) ≡ true → true ≡ uniform caps selector order
@@ -60,10 +55,8 @@ module _ {caps : ℕ → Cap} {selector order low size permissions resource : �
   -- one offset more
   pub one-more : (offset : ℕ) {cap : Cap} → cap ≡ caps (low + offset) → continued cap permissions resource offset ≡ true →
       allBelow offset (continuedAt caps low permissions resource) ≡ true → allBelow (offset + 1) (continuedAt caps low permissions resource) ≡ true
-  unfolding allBelow
-  one-more offset is-cap t before =
-      rw (add-one offset)
-      (both (allBelow offset (continuedAt caps low permissions resource)) (continuedAt caps low permissions resource offset) before (rw is-cap at t))
+  one-more offset {cap} is-cap t before =
+      all-below-more (continuedAt caps low permissions resource) offset (continued cap permissions resource offset) before (rw is-cap) (rw t)
 
 -- the largest order from one on downward: that one, or one of those below it
 module _ (caps : ℕ → Cap) (selector : ℕ) where

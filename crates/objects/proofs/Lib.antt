@@ -1,4 +1,3 @@
 -- The laws of the object table that the functions' proofs and the crates above cite.
 pub mod GreatestLaws
 pub mod RecordTableLaws
-pub mod CountingLaws

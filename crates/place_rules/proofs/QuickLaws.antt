@@ -20,10 +20,10 @@ use Rattle.interface.specs.Boot.{hypervisor, rootPd}
 use Rattle.interface.specs.Damage.{sameCap, fixed-place, hasPd, null-place, isResource, parentless-place, live-place, shallow, parentFits}
 use Rattle.interface.proofs.Basics.BoolLaws.{cases, and-left, and-right, same-test, each-of-four}
 use Rattle.interface.proofs.Basics.BelowLaws.{all-below-at, all-below}
+use Rattle.interface.proofs.Basics.LoopLaws.{answered-yes, answered-no}
 use Rattle.interface.proofs.Sound.PlaceFacts.{same-cap, null-cap, null-test, depth-small, ChildOf, child-facts, child-test, Lineage, no-parent, child, LivePlace, live-facts, live-test}
 use Rattle.place_rules.specs.PlaceKeeping.{placeKeeps, quickKeeps, blank}
 use Rattle.record_rules.specs.RecordKeeping.{Kept}
-use Rattle.record_rules.proofs.LoopLaws.{answered-yes, answered-no}
 use Rattle.place_rules.proofs.PlaceTests.{link-before, link-past, past-hypervisor, fixed-past, fixed-null, parent-past, place-parts, domain-without-pd}
 use Rattle.place_rules.proofs.HypervisorLaws.{hypervisor-below}
 

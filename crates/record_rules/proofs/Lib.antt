@@ -1,5 +1,4 @@
 -- The laws that the functions' proofs and the crates above cite.
-pub mod LoopLaws
 pub mod TailLaws
 pub mod RecordTests
 pub mod PdLaws

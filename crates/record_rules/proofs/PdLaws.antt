@@ -14,13 +14,13 @@ use Rattle.interface.specs.Boot.{hypervisor}
 use Rattle.interface.specs.Damage.{used-first, pdsBelow, pd-rule, hasPd, between1}
 use Rattle.interface.proofs.Basics.BoolLaws.{and-left, and-right, both, same-test, cases}
 use Rattle.interface.proofs.Basics.BelowLaws.{all-below-at, any-below-at, count-below-past, count-below-reaches}
+use Rattle.interface.proofs.Basics.LoopLaws.{count-below-small, any-below-more}
 use Rattle.interface.proofs.Sound.PlaceFacts.{pd-numbered}
 use Rattle.interface.proofs.Sound.Soundness.{OfRecords}
 use Rattle.interface.proofs.Sound.SoundFacts.{has-pd}
 use Rattle.record_rules.specs.RecordKeeping.{recordsIn, Numbered, countedPds}
 use Rattle.record_rules.specs.declared.CountedPds.{CountedPds}
 use Rattle.record_rules.specs.declared.CountedPds.the-variants.{InTurn, OutOfTurn}
-use Rattle.record_rules.proofs.LoopLaws.{count-below-small, any-below-more}
 
 module _ (s : State) where
   -- there are no more PDs below a record than records

@@ -15,9 +15,9 @@ use Rattle.interface.specs.Boot.{root, cpus, rootPd, rootEc, rootSc, noEc, root
 use Rattle.interface.specs.Damage.{fixed-record, interrupt-rule, unnamed-rule, used-first, pdsBelow, pd-rule, hasPd, isEc, ec-rule, between1, greatestPriority, greatestQuantum, sc-rule, pt-rule}
 use Rattle.interface.proofs.Basics.BoolLaws.{cases, same-test, not-both, and-left, and-right, each-of-four, or-none-left, or-none-right, not-asked}
 use Rattle.interface.proofs.Basics.BelowLaws.{all-below-at, all-below}
+use Rattle.interface.proofs.Basics.LoopLaws.{so-far-more, so-far-done}
 use Rattle.objects.proofs.RecordTableLaws.{short-words}
 use Rattle.record_rules.specs.RecordKeeping.{clearFrom, hasWords, recordKeeps}
-use Rattle.record_rules.proofs.LoopLaws.{so-far-more, so-far-done}
 use Rattle.record_rules.proofs.RecordParts.{record-parts}
 use Rattle.record_rules.proofs.TailLaws.{from-zero, after-four, from-same}
 

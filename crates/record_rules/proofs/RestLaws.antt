@@ -14,9 +14,9 @@ use Rattle.interface.specs.Boot.{rootSc}
 use Rattle.interface.specs.Damage.{used-first, pdsBelow, pd-rule}
 use Rattle.interface.proofs.Basics.BoolLaws.{cases, not-both, and-left, same-test}
 use Rattle.interface.proofs.Basics.BelowLaws.{all-below-at, all-below}
+use Rattle.interface.proofs.Basics.LoopLaws.{answered-yes, answered-no, all-below-more, so-far-done}
 use Rattle.record_rules.specs.RecordKeeping.{recordsIn, clearFrom, restClear, recordKeeps, countedPds}
 use Rattle.record_rules.specs.declared.CountedPds.the-variants.{InTurn, OutOfTurn}
-use Rattle.record_rules.proofs.LoopLaws.{answered-yes, answered-no, all-below-more, so-far-done}
 use Rattle.record_rules.proofs.TailLaws.{from-at, from-so}
 use Rattle.record_rules.proofs.RecordTests.{free-so, used-at-0, used-after, pd-not, pd-none, free-keeps}
 use Rattle.record_rules.proofs.PdLaws.{pds-next, out-of-use, in-turn}

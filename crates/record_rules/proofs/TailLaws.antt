@@ -1,10 +1,10 @@
 -- Tests of the numbers from one on below another: such a test is that of its first number and of those after it.
 use Prim.Native.Nat.{ℕ, _+_, _≤_, _<_}
-use mathlib.Core.Path.{_≡_, refl, sym, ap, _∙_, fun-ext}
-use mathlib.Core.Bool.{Bool, true, false, _&&_, _||_}
+use mathlib.Core.Path.{_≡_, sym, ap, _∙_, fun-ext}
+use mathlib.Core.Bool.{Bool, true, false, _&&_, _||_, and-assoc}
 use native.Mathlib.Omega.{arith}
 use lib.Dec.{eqb, ltb, leb·suc-zero}
-use borrow.Author.Tests.{ltb-true, ltb-false, lt-ltb, le-ltb, eqb-true, eqb-false}
+use borrow.Author.Tests.{ltb-false, le-ltb, eqb-true, eqb-false}
 use Rattle.interface.specs.Basics.{allBelow}
 use Rattle.interface.proofs.Basics.BoolLaws.{cases, same-test, and-left, and-right, both}
 use Rattle.interface.proofs.Basics.BelowLaws.{all-below-at, all-below}
@@ -43,16 +43,12 @@ module _ (n : ℕ) (test : ℕ → Bool) where
       from-at (first + 1) (and-right (test first) (allFrom (first + 1)) h) k (omega (arith, apart)) b)))
 
 -- a test of all as the tests of the first four and of those after them
-and-so : (a b c : Bool) → (a && (b && c)) ≡ (a && b && c)
-and-so true b c = refl
-and-so false b c = refl
-
 pub after-four : (n : ℕ) (test : ℕ → Bool) → 4 ≤ n → (test 0 && test 1 && test 2 && test 3 && allFrom n test 4) ≡ allBelow n test
 after-four n test l =
     sym
     (sym (from-zero n test) ∙
     rw (from-next n test 0 (omega arith), from-next n test 1 (omega arith), from-next n test 2 (omega arith), from-next n test 3 (omega arith))
-    (rw (and-so (test 0), and-so (test 0 && test 1), and-so (test 0 && test 1 && test 2))))
+    (rw (← and-assoc (test 0), ← and-assoc (test 0 && test 1), ← and-assoc (test 0 && test 1 && test 2))))
 
 -- tests that are the same from a number on
 pub from-same : (n first : ℕ) (test other : ℕ → Bool) → ((k : ℕ) → first ≤ k → test k ≡ other k) → allFrom n test first ≡ allFrom n other first

@@ -14,9 +14,9 @@ use Rattle.interface.specs.Basics.{allBelow}
 use Rattle.interface.specs.Places.{State, Tables, sized, shown}
 use Rattle.interface.specs.Damage.{Rule, of-records, fixed-record, interrupt-rule, unnamed-rule, used-first, pdsBelow, pd-rule, hasPd, isEc, ec-rule, sc-rule, pt-rule, rulesOfDamage, firstFault, fault}
 use Rattle.interface.proofs.Basics.BelowLaws.{all-below-at}
+use Rattle.interface.proofs.Basics.LoopLaws.{answered-yes}
 use Rattle.record_rules.specs.RecordKeeping.{recordsIn}
 use Rattle.soundness.specs.RuleNumbers.{lowestFailing, firstRule, lastRule, ruleOf}
-use Rattle.record_rules.proofs.LoopLaws.{answered-yes}
 
 module _ (rule : ℕ) where
   -- a rule that has been told by its number

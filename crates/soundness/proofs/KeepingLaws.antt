@@ -13,12 +13,12 @@ use Rattle.interface.specs.Places.{Cap, State, Tables, nothing, placeTableWords
 use Rattle.interface.specs.Damage.{fixed-place, used-first, pdsBelow, pd-rule, soundState, sound}
 use Rattle.interface.proofs.Basics.BoolLaws.{cases, and-left, and-right, both, same-test, not-both}
 use Rattle.interface.proofs.Basics.BelowLaws.{all-below-at, all-below}
+use Rattle.interface.proofs.Basics.LoopLaws.{answered-yes, answered-no}
 use Rattle.interface.proofs.Sound.Soundness.{OfRecords, OfPlaces, sound-facts, facts-sound}
 use Rattle.record_rules.specs.RecordKeeping.{recordsIn, recordKeeps, Numbered, Kept, countedPds}
 use Rattle.record_rules.specs.declared.CountedPds.{CountedPds}
 use Rattle.record_rules.specs.declared.CountedPds.the-variants.{InTurn, OutOfTurn}
 use Rattle.record_rules.proofs.PdLaws.{turns-kept, turns-broken}
-use Rattle.record_rules.proofs.LoopLaws.{answered-yes, answered-no}
 use Rattle.record_rules.proofs.RecordParts.{caps-apart, record-parts}
 use Rattle.place_rules.specs.PlaceKeeping.{placeKeeps}
 use Rattle.place_rules.proofs.PlaceTests.{place-parts}

@@ -43,12 +43,6 @@ module _ (a b : Bool) where
   pub or-none-right : (a || b) ≡ false → b ≡ false
   or-none-right h = cases b (λ (t : b ≡ true). not-both (a || b) (or-right t) h) (λ (f : b ≡ false). f)
 
-pub and-swap : (a b : Bool) → (a && b) ≡ (b && a)
-and-swap true true = refl
-and-swap true false = refl
-and-swap false true = refl
-and-swap false false = refl
-
 pub false-not : (b : Bool) → b ≡ false → not b ≡ true
 false-not b h = rw h
 

@@ -2,7 +2,7 @@
 use Prim.Native.Nat.{ℕ, _≤_, _<_}
 use mathlib.Core.Path.{_≡_, refl, ap, _∙_}
 use mathlib.Core.Logic.{_↔_, _⊎_, inl, inr}
-use mathlib.Core.Bool.{Bool, true, false, not, _&&_, true≢false}
+use mathlib.Core.Bool.{Bool, true, false, not, _&&_, true≢false, and-comm}
 use mathlib.Core.List.{List, [], _∷_}
 use native.Mathlib.Omega.{arith}
 use lib.Dec.{eqb, ltb}
@@ -24,7 +24,7 @@ use Rattle.interface.specs.Verdicts.{Call, CREATE-PD, CREATE-EC, CREATE-
 use Rattle.interface.specs.Creations.{newPlace, pdPlace, ecPlace, freeRecord, nextDomain, Creation, creation, initialGood, priority, quantum, createPd, createEc, createSc, createPt, createSm}
 use Rattle.interface.specs.Rules.{hypercall, rules}
 use Rattle.interface.specs.Refusals.{MayCreate, MayBind, NoRecordFree, NoDomainLeft, BadInitial, BadQpd, CreationsRefusedExactly}
-use Rattle.interface.proofs.Basics.BoolLaws.{cases, and-left, and-right, both, and-swap, one-choice}
+use Rattle.interface.proofs.Basics.BoolLaws.{cases, and-left, and-right, both, one-choice}
 use Rattle.interface.proofs.Sound.Soundness.{Sound, sound-facts}
 use Rattle.interface.proofs.Sound.SoundObjects.{free-there, used-below-free}
 use Rattle.interface.proofs.Sound.SoundFacts.{home, numbered-home}
@@ -53,8 +53,8 @@ creation-asks s c new =
     let left = ltb (freeRecord s) records in
     let room = left && new .domain-left in
     one-choice null by-pd (require new .bindable else BadCap then last room) (refuse BadCap) ∙ one-choice (null && by-pd) (new .bindable) (last room) (refuse BadCap) ∙
-    ap (λ (test : Bool). require test else BadCap then last room) (and-swap (null && by-pd) (new .bindable)) ∙
-    ap (λ (test : Bool). require new .bindable && (null && by-pd) else BadCap then last test) (and-swap left (new .domain-left))
+    ap (λ (test : Bool). require test else BadCap then last room) (and-comm (null && by-pd) (new .bindable)) ∙
+    ap (λ (test : Bool). require new .bindable && (null && by-pd) else BadCap then last test) (and-comm left (new .domain-left))
 
 -- the tests of a creation decide its facts
 module _ (s : State) (c : Call) (k : Sound s) (e : isEc s (c .caller) ≡ true) where

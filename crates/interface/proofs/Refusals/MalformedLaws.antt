@@ -2,7 +2,7 @@
 use Prim.Native.Nat.{ℕ, _+_, _-_, _%_, _^_, _≤_}
 use mathlib.Core.Path.{_≡_, refl, sym, ap, _∙_}
 use mathlib.Core.Logic.{_↔_, _⊎_, inl, inr, ⊎-elim}
-use mathlib.Core.Bool.{Bool, true, false, cond, _&&_, _||_, true≢false}
+use mathlib.Core.Bool.{Bool, true, false, cond, _&&_, _||_, true≢false, and-comm}
 use native.Mathlib.Omega.{arith}
 use lib.Dec.{eqb, leb}
 use lib.Pow.{pow-mono}
@@ -13,7 +13,7 @@ use Rattle.descriptor.specs.declared.Range.{Range}
 use Rattle.descriptor.specs.declared.Reading.the-variants.{Null, Malformed, Good}
 use Rattle.interface.specs.RangeDescriptors.{typeField, orderField, baseField, reading}
 use Rattle.interface.specs.Refusals.{MalformedExactly}
-use Rattle.interface.proofs.Basics.BoolLaws.{cases, neither, or-none-left, or-none-right, and-swap}
+use Rattle.interface.proofs.Basics.BoolLaws.{cases, neither, or-none-left, or-none-right}
 
 -- what is read by four tests: malformed exactly where the first fails, and then the second, the third, or the last two
 read-so : {A B C D : Type 0} (null fits aligned-so objects ends : Bool) (range : Range) → (null ≡ true → A → ⊥) → (null ≡ false → A) → (fits ≡ false ↔ B) → (aligned-so ≡ false ↔ C) →
@@ -57,8 +57,8 @@ one-order false aligned-so order base =
   where
     none : (a b c : Bool) → (a && c && false) ≡ (b && c && false)
     none true true c = refl
-    none true false c = and-swap c false
-    none false true c = and-swap false c
+    none true false c = and-comm c false
+    none false true c = and-comm false c
     none false false c = refl
 
 pub malformed-exactly : MalformedExactly

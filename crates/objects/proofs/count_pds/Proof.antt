@@ -12,8 +12,8 @@ use Rattle.words.specs.Sizes.{records}
 use Rattle.interface.specs.Basics.{countBelow}
 use Rattle.interface.specs.Places.{PD, kindWord, objectAt}
 use Rattle.interface.specs.Damage.{pdsBelow}
+use Rattle.interface.proofs.Basics.LoopLaws.{count-more, count-same}
 use Rattle.objects.specs.Records.{recordsIn}
-use Rattle.objects.proofs.CountingLaws.{count-more, count-same}
 use Rattle.objects.proofs.count_pds.Statement.{statement}
 use Rattle.objects.proofs.count_pds.Tie as tie
 

@@ -15,8 +15,8 @@ use Rattle.descriptor.proofs.DescriptorLaws.{numbered-so, numbered-beyond}
 use Rattle.interface.specs.Basics.{lowest}
 use Rattle.interface.specs.Places.{free, kindWord, objectAt}
 use Rattle.interface.specs.Creations.{freeRecord}
+use Rattle.interface.proofs.Basics.LoopLaws.{lowest-none, lowest-found}
 use Rattle.objects.specs.Records.{recordsIn}
-use Rattle.objects.proofs.CountingLaws.{lowest-none, lowest-found}
 use Rattle.objects.proofs.free_record.Statement.{statement}
 use Rattle.objects.proofs.free_record.Tie as tie
 

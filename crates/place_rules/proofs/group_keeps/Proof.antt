@@ -6,7 +6,7 @@ use native.Mathlib.Omega.{arith}
 use Rattle.words.proofs.PlaceLaws.{space-small}
 use Rattle.interface.specs.Basics.{allBelow}
 use Rattle.interface.specs.Places.{view}
-use Rattle.record_rules.proofs.LoopLaws.{all-below-more, all-below-done, all-below-broken}
+use Rattle.interface.proofs.Basics.LoopLaws.{all-below-more, all-below-done, all-below-broken}
 use Rattle.place_rules.specs.PlaceKeeping.{quickKeeps, group}
 use Rattle.place_rules.proofs.PlaceTests.{extent-space, extent-own, around-home}
 use Rattle.place_rules.proofs.QuickLaws.{blank-keeps}

@@ -4,7 +4,7 @@ use mathlib.Core.Path.{_∙_}
 use native.Mathlib.Omega.{arith}
 use Rattle.words.specs.Sizes.{io, object, start, stride}
 use Rattle.interface.specs.Boot.{cpus, rootPd}
-use Rattle.record_rules.proofs.LoopLaws.{all-below-none, all-below-within, answered-yes}
+use Rattle.interface.proofs.Basics.LoopLaws.{all-below-none, all-below-within, answered-yes}
 use Rattle.place_rules.proofs.PlaceTests.{memory-stretch, io-stretch, idle-stretch, interrupt-stretch}
 use Rattle.place_rules.proofs.QuickLaws.{rest-decides}
 use borrow.Author.Needs.{needs}

@@ -5,7 +5,7 @@ use native.Mathlib.Omega.{arith}
 use lib.Dec.{eqb}
 use Rattle.words.specs.Sizes.{placeWords}
 use Rattle.interface.specs.Basics.{allBelow, word}
-use Rattle.record_rules.proofs.LoopLaws.{so-far-none, so-far-more, so-far-done}
+use Rattle.interface.proofs.Basics.LoopLaws.{so-far-none, so-far-more, so-far-done}
 use borrow.Author.Needs.{needs}
 use Rattle.place_rules.proofs.is_blank.Statement.{statement}
 use Rattle.place_rules.proofs.is_blank.Tie as tie

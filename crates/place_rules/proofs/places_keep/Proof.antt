@@ -6,7 +6,7 @@ use native.Mathlib.Omega.{arith}
 use Rattle.words.specs.Sizes.{stride, places}
 use Rattle.interface.specs.Basics.{allBelow}
 use Rattle.interface.specs.Places.{view}
-use Rattle.record_rules.proofs.LoopLaws.{all-below-done, all-below-within, answered-yes}
+use Rattle.interface.proofs.Basics.LoopLaws.{all-below-done, all-below-within, answered-yes}
 use Rattle.record_rules.proofs.PdLaws.{few-pds}
 use Rattle.place_rules.specs.PlaceKeeping.{quickKeeps, group}
 use Rattle.place_rules.proofs.QuickLaws.{quick-decides, quick-start, blank-decides}

@@ -5,7 +5,7 @@ use native.Mathlib.Omega.{arith}
 use Rattle.interface.specs.Basics.{allBelow}
 use Rattle.interface.specs.Places.{Cap, nothing, placesIn}
 use Rattle.interface.specs.Damage.{sameCap, fixed-place}
-use Rattle.record_rules.proofs.LoopLaws.{so-far-more, so-far-done}
+use Rattle.interface.proofs.Basics.LoopLaws.{so-far-more, so-far-done}
 use Rattle.place_rules.proofs.PlaceTests.{fixed-stretch}
 use borrow.Author.Needs.{needs}
 use Rattle.place_rules.proofs.stretch_keeps.Statement.{statement}

@@ -8,9 +8,9 @@ use Rattle.words.specs.Sizes.{records}
 use Rattle.interface.specs.Basics.{anyBelow}
 use Rattle.interface.specs.Places.{PD, domainWord, kindOf}
 use Rattle.interface.specs.Damage.{hasPd}
+use Rattle.interface.proofs.Basics.LoopLaws.{any-below-zero, any-below-done}
 use Rattle.record_rules.specs.RecordKeeping.{recordsIn}
 use Rattle.record_rules.proofs.PdLaws.{pd-found}
-use Rattle.record_rules.proofs.LoopLaws.{any-below-zero, any-below-done}
 use Rattle.record_rules.proofs.has_pd.Statement.{statement}
 use Rattle.record_rules.proofs.has_pd.Tie as tie
 

@@ -7,8 +7,8 @@ use borrow.Author.Needs.{needs}
 use Rattle.words.specs.Sizes.{records}
 use Rattle.interface.specs.Basics.{allBelow}
 use Rattle.interface.specs.Damage.{pdsBelow, pd-rule}
+use Rattle.interface.proofs.Basics.LoopLaws.{all-below-none, all-below-more, all-below-done, all-below-broken}
 use Rattle.record_rules.specs.RecordKeeping.{recordsIn}
-use Rattle.record_rules.proofs.LoopLaws.{all-below-none, all-below-more, all-below-done, all-below-broken}
 use Rattle.record_rules.proofs.PdLaws.{pds-small, no-pds, pds-next, pds-end, in-turn, out-of-turn}
 use Rattle.record_rules.proofs.RestLaws.{isUsed, used-more, all-used, rest-out, rest-in}
 use Rattle.record_rules.proofs.pds_in_turn.Statement.{statement}

@@ -5,8 +5,8 @@ use mathlib.Core.Bool.{true}
 use borrow.Author.Needs.{needs}
 use Rattle.words.specs.Sizes.{records}
 use Rattle.interface.specs.Basics.{allBelow}
+use Rattle.interface.proofs.Basics.LoopLaws.{all-below-none, all-below-more, all-below-done, all-below-broken}
 use Rattle.record_rules.specs.RecordKeeping.{recordsIn, recordKeeps}
-use Rattle.record_rules.proofs.LoopLaws.{all-below-none, all-below-more, all-below-done, all-below-broken}
 use Rattle.record_rules.proofs.RestLaws.{free-decides}
 use Rattle.record_rules.proofs.records_keep.Statement.{statement}
 use Rattle.record_rules.proofs.records_keep.Tie as tie

@@ -1,6 +1,6 @@
 -- Each way out but the last is a part of the tables that breaks a rule; once the lengths and the records are right the places decide.
 use borrow.Author.Needs.{needs}
-use Rattle.record_rules.proofs.LoopLaws.{answered-yes}
+use Rattle.interface.proofs.Basics.LoopLaws.{answered-yes}
 use Rattle.soundness.proofs.KeepingLaws.{places-long, objects-long, numbered-so, kept-so, sizes-broken, pds-broken, records-broken, hypervisor-broken, places-decide}
 use Rattle.soundness.proofs.is_sound.Statement.{statement}
 use Rattle.soundness.proofs.is_sound.Tie as tie

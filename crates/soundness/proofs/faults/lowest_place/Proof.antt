@@ -6,8 +6,8 @@ use borrow.Author.Needs.{needs}
 use Rattle.words.specs.Sizes.{places}
 use Rattle.interface.specs.Places.{Tables, shown}
 use Rattle.interface.specs.Basics.{allBelow}
+use Rattle.interface.proofs.Basics.LoopLaws.{all-below-none, all-below-more}
 use Rattle.soundness.specs.RuleNumbers.{ruleOf}
-use Rattle.record_rules.proofs.LoopLaws.{all-below-none, all-below-more}
 use Rattle.soundness.proofs.LowestLaws.{lowest-first, lowest-none}
 use Rattle.soundness.proofs.faults.lowest_place.Statement.{statement}
 use Rattle.soundness.proofs.faults.lowest_place.Tie as tie

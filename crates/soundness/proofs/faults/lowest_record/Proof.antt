@@ -5,9 +5,9 @@ use mathlib.Core.Bool.{true}
 use borrow.Author.Needs.{needs}
 use Rattle.words.specs.Sizes.{records}
 use Rattle.interface.specs.Basics.{allBelow}
+use Rattle.interface.proofs.Basics.LoopLaws.{all-below-none, all-below-more}
 use Rattle.record_rules.specs.RecordKeeping.{recordsIn}
 use Rattle.soundness.specs.RuleNumbers.{ruleOf}
-use Rattle.record_rules.proofs.LoopLaws.{all-below-none, all-below-more}
 use Rattle.soundness.proofs.LowestLaws.{lowest-first, lowest-none}
 use Rattle.soundness.proofs.faults.lowest_record.Statement.{statement}
 use Rattle.soundness.proofs.faults.lowest_record.Tie as tie

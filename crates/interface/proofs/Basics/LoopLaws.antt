@@ -1,13 +1,15 @@
--- Loops over the numbers below one: what a test of all of them, a count and a search come to, number by number.
+-- Loops over the numbers below one: what a test of all of them, a test of some, a count and the lowest that a test holds of come to, number by number.
 use Prim.Native.Nat.{ℕ, zero, suc, _+_, _≤_, _<_}
 use mathlib.Core.Path.{_≡_, refl, sym, _∙_}
 use mathlib.Core.Bool.{Bool, true, false, not, _&&_, _||_}
+use native.Mathlib.Decide.{le-ind}
+use native.Mathlib.Nat.{add-zero}
 use native.Mathlib.Numerals.{add-one}
 use native.Mathlib.Omega.{arith}
-use borrow.Author.Tests.{not-true, not-false}
-use Rattle.interface.specs.Basics.{allBelow, anyBelow, countBelow}
+use borrow.Author.Tests.{lt-ltb, le-ltb, not-true, not-false}
+use Rattle.interface.specs.Basics.{allBelow, anyBelow, countBelow, lowest}
 use Rattle.interface.proofs.Basics.BoolLaws.{cases, not-both, both}
 use Rattle.interface.proofs.Basics.BelowLaws.{all-below-at, all-below}
 
 -- a test that a call answered, by what the code made of the answer
 pub answered-yes : (answer test : Bool) → answer ≡ test → not answer ≡ false → test ≡ true
@@ -72,3 +74,24 @@ module _ (test : ℕ → Bool) where
 
   pub any-below-done : (n i : ℕ) (found : Bool) → i ≤ n → n ≤ i → found ≡ anyBelow i test → found ≡ anyBelow n test
   any-below-done n i found l g h = let e : i ≡ n = omega arith in rw e at h
+
+-- what the next number makes of the lowest that a test holds of, and of the count of those that it holds of
+module _ (n : ℕ) (test : ℕ → Bool) where
+  -- a test that holds of no number below one, and not of that one, holds of none below the next
+  pub lowest-none : lowest n test ≡ n → test n ≡ false → lowest (n + 1) test ≡ n + 1
+  unfolding lowest
+  lowest-none e f = rw (add-one n) (rw (e, le-ltb n n (omega arith), f))
+
+  -- a test that holds of no number below one, and of that one, holds of it as the lowest
+  pub lowest-found : (m : ℕ) → n < m → lowest n test ≡ n → test n ≡ true → lowest m test ≡ n
+  unfolding lowest
+  lowest-found m l e t =
+      le-ind (λ (k : ℕ). lowest k test ≡ n) (rw (e, le-ltb n n (omega arith), t)) (λ k b ih. rw (ih, lt-ltb n k b)) m l
+
+  pub count-more : test n ≡ true → countBelow (n + 1) test ≡ countBelow n test + 1
+  unfolding countBelow
+  count-more t = rw (add-one n) (rw t)
+
+  pub count-same : test n ≡ false → countBelow (n + 1) test ≡ countBelow n test
+  unfolding countBelow
+  count-same f = rw (add-one n) (rw f (add-zero (countBelow n test)))
