@@ -5,22 +5,22 @@ use mathlib.Core.Bool.{Bool, true, false, not}
 use mathlib.Core.List.{List}
 use native.Mathlib.Omega.{arith}
 use lib.Dec.{eqb}
-use lib.ListN.{length}
 use borrow.Author.Tests.{eqb-true, eqb-false, not-true, not-false}
 use Rattle.words.specs.Sizes.{places, records}
 use Rattle.descriptor.specs.declared.Reply.the-variants.{Success, Damaged}
 use Rattle.interface.specs.Basics.{word, put}
-use Rattle.interface.specs.Places.{Cap, placeTableWords, objectTableWords, sized, capAt, objectAt, capTable, recordTable}
+use Rattle.interface.specs.Places.{Cap, sized, capAt, objectAt, capTable, recordTable}
 use Rattle.interface.specs.Boot.{bootRecord, bootCap}
 use Rattle.interface.specs.Rules.{bootReply, bootTables}
 use Rattle.interface.specs.Outcomes.{Booted}
-use Rattle.interface.proofs.Basics.BoolLaws.{cases, and-left, and-right}
+use Rattle.interface.proofs.Basics.BoolLaws.{cases}
 use Rattle.interface.proofs.Basics.PutLaws.{put-same, put-other}
+use Rattle.interface.proofs.Tables.TableLaws.{cap-table-back, record-table-back, places-long, objects-long}
 use Rattle.places.specs.Table.{Sized as SizedPlaces}
-use Rattle.places.proofs.CapTableLaws.{length-cap-table, cap-at-table-below, cap-table-back, cap-table-same}
+use Rattle.places.proofs.CapTableLaws.{length-cap-table, cap-at-table-below, cap-table-same}
 use Rattle.objects.specs.declared.Record.{Record}
 use Rattle.objects.specs.Records.{Sized as SizedObjects, wordsOf}
-use Rattle.objects.proofs.RecordTableLaws.{length-record-table, object-at-table, object-at-end, words-end, put-record-end, record-table-back, record-table-same}
+use Rattle.objects.proofs.RecordTableLaws.{length-record-table, object-at-table, object-at-end, words-end, put-record-end, record-table-same}
 
 -- a place table whose places below a number hold what they do at boot
 pub record PlacesBelow (number : ℕ) (table : List ℕ) : Type 0 where
@@ -91,16 +91,10 @@ all-records number table below past =
 -- boot's ways out, by the code's test of the lengths
 module _ (places-before objects-before : List ℕ) (right : Bool) (is-sized : right ≡ sized (record { places = places-before; objects = objects-before })) where
   pub places-sized : not right ≡ false → SizedPlaces places-before
-  unfolding sized
-  places-sized f =
-      eqb-true (length places-before) placeTableWords
-      (and-left (eqb (length places-before) placeTableWords) (eqb (length objects-before) objectTableWords) (sym is-sized ∙ not-false right f))
+  places-sized f = places-long (record { places = places-before; objects = objects-before }) (sym is-sized ∙ not-false right f)
 
   pub objects-sized : not right ≡ false → SizedObjects objects-before
-  unfolding sized
-  objects-sized f =
-      eqb-true (length objects-before) objectTableWords
-      (and-right (eqb (length places-before) placeTableWords) (eqb (length objects-before) objectTableWords) (sym is-sized ∙ not-false right f))
+  objects-sized f = objects-long (record { places = places-before; objects = objects-before }) (sym is-sized ∙ not-false right f)
 
   pub booted-not : not right ≡ true → Booted places-before objects-before places-before objects-before Damaged
   unfolding bootReply bootTables

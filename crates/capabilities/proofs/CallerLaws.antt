@@ -3,46 +3,33 @@ use Prim.Native.Nat.{ℕ, _<_}
 use mathlib.Core.Path.{_≡_}
 use mathlib.Core.Bool.{true}
 use mathlib.Core.List.{List}
-use lib.Dec.{eqb}
-use lib.ListN.{length}
-use borrow.Author.Tests.{eqb-true}
 use Rattle.words.specs.Sizes.{domains, records}
 use Rattle.descriptor.specs.declared.Reply.{Reply}
-use Rattle.interface.specs.Places.{Cap, State, domainWord, objectPlace, permitted, placeTableWords, objectTableWords, sized, capAt, objectAt, placeTable, objectTable, tables, view}
-use Rattle.interface.specs.Damage.{soundState, sound}
+use Rattle.interface.specs.Places.{Cap, State, domainWord, objectPlace, permitted, sized, capAt, objectAt, placeTable, objectTable, tables, view}
 use Rattle.interface.specs.Effects.{run}
 use Rattle.interface.specs.Verdicts.{Call, Verdict, refuse, replyOf, effectsOf}
 use Rattle.interface.specs.Rules.{Runs}
-use Rattle.interface.proofs.Basics.BoolLaws.{and-left, and-right}
+use Rattle.interface.proofs.Tables.TableLaws.{cap-table-back, record-table-back, places-long, objects-long, sound-sized, sound-shown}
 use Rattle.interface.proofs.Sound.Soundness.{Sound, sound-facts}
 use Rattle.interface.proofs.Sound.SoundFacts.{ec-small, home, ec-home, own-record}
 use Rattle.places.specs.Table.{Sized as SizedPlaces}
-use Rattle.places.proofs.CapTableLaws.{cap-table-back}
 use Rattle.objects.specs.Records.{Sized as SizedObjects}
-use Rattle.objects.proofs.RecordTableLaws.{record-table-back}
 use Rattle.capabilities.specs.Callers.{Called}
 
 module _ {places objects : List ℕ} {caller : ℕ} (called : Called places objects caller) where
   -- the tables have their lengths
   lengths : sized (tables places objects) ≡ true
-  unfolding sound
-  lengths = and-left (sized (tables places objects)) (soundState (view places objects)) (called .is-sound)
+  lengths = sound-sized (tables places objects) (called .is-sound)
 
   pub sized-places : SizedPlaces places
-  unfolding sized
-  sized-places =
-      eqb-true (length places) placeTableWords (and-left (eqb (length places) placeTableWords) (eqb (length objects) objectTableWords) lengths)
+  sized-places = places-long (tables places objects) lengths
 
   pub sized-objects : SizedObjects objects
-  unfolding sized
-  sized-objects =
-      eqb-true (length objects) objectTableWords (and-right (eqb (length places) placeTableWords) (eqb (length objects) objectTableWords) lengths)
+  sized-objects = objects-long (tables places objects) lengths
 
   -- what they show keeps the rules of damage
   pub called-sound : Sound (view places objects)
-  unfolding sound
-  called-sound =
-      sound-facts (view places objects) (and-right (sized (tables places objects)) (soundState (view places objects)) (called .is-sound))
+  called-sound = sound-facts (view places objects) (sound-shown (tables places objects) (called .is-sound))
 
   -- the caller is a record's number, and its domain one of the domains
   pub caller-small : caller < records

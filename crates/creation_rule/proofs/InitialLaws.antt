@@ -21,9 +21,10 @@ use Rattle.interface.specs.Damage.{pdsBelow}
 use Rattle.interface.specs.Effects.{givenCaps, act, run}
 use Rattle.interface.specs.Creations.{initialGood, handOn}
 use Rattle.interface.proofs.Basics.LoopLaws.{count-below-small}
+use Rattle.interface.proofs.Tables.TableLaws.{cap-at-end}
 use Rattle.interface.proofs.Tables.TurnLaws.{run-append}
 use Rattle.places.specs.Table.{Sized, Given}
-use Rattle.places.proofs.CapTableLaws.{cap-at-table, cap-at-end, given-end}
+use Rattle.places.proofs.CapTableLaws.{cap-at-table, given-end}
 use Rattle.objects.specs.Records.{recordsIn}
 use Rattle.creation_rule.specs.CreationRule.{Hands, Handed}
 

@@ -15,9 +15,10 @@ use Rattle.interface.specs.Places.{State, capAt, capTable, placesIn}
 use Rattle.interface.specs.Effects.{Effect, give, fills, givenCaps, act, run, fillsOne, filled}
 use Rattle.interface.specs.Message.{smallerOrder, raisedBase, delegations}
 use Rattle.interface.proofs.Basics.BoolLaws.{either-way}
+use Rattle.interface.proofs.Tables.TableLaws.{cap-table-back, cap-at-end}
 use Rattle.interface.proofs.Tables.TurnLaws.{run-append, filled-append, gives}
 use Rattle.places.specs.Table.{Sized, Given}
-use Rattle.places.proofs.CapTableLaws.{length-cap-table, cap-at-table, cap-table-back, cap-at-end, given-end}
+use Rattle.places.proofs.CapTableLaws.{length-cap-table, cap-at-table, given-end}
 use Rattle.windows.specs.Matching.{Matched}
 use Rattle.delegation.specs.Delegating.{LiveLinks, GivenAt, Taken}
 use Rattle.delegation.proofs.LiveLinkLaws.{give-links}

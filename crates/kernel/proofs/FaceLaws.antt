@@ -6,17 +6,15 @@ use mathlib.Core.List.{List, []}
 use native.Mathlib.Omega.{arith}
 use Rattle.descriptor.specs.declared.Reply.{Reply}
 use Rattle.descriptor.specs.declared.Reply.the-variants.{Damaged}
-use lib.Dec.{eqb}
 use lib.ListN.{length}
-use borrow.Author.Tests.{eqb-true}
-use Rattle.interface.specs.Places.{Tables, sized, capAt, placeTableWords, objectTableWords, tables, view, placesIn}
-use Rattle.interface.specs.Damage.{soundState, sound}
+use Rattle.interface.specs.Places.{Tables, sized, capAt, placeTableWords, tables, view, placesIn}
+use Rattle.interface.specs.Damage.{sound}
 use Rattle.interface.specs.Verdicts.{Call}
-use Rattle.interface.specs.Rules.{hypercall, after, bootTables}
+use Rattle.interface.specs.Rules.{after, bootTables}
 use Rattle.interface.specs.Outcomes.{Outcome, outcome, Booted}
 use Rattle.interface.specs.Census.{CensusResult, counted, censusOf}
 use Rattle.interface.specs.Demand.{tablesAfterAll, fromBoot, GoesOn, ShowsHeirs}
-use Rattle.interface.proofs.Basics.BoolLaws.{and-left, and-right}
+use Rattle.interface.proofs.Tables.TableLaws.{places-long, sound-sized, sound-shown}
 use Rattle.interface.proofs.Consequences.ConsequenceLaws.{judged-once}
 use Rattle.interface.proofs.History.DemandLaws.{goes-on, shows-heirs}
 use Rattle.interface.proofs.Sound.Soundness.{sound-facts}
@@ -43,17 +41,10 @@ module _ (places objects : List ℕ) (place : ℕ) (list : List ℕ) where
 -- sound tables have their lengths, and links that a walk can follow
 module _ (places objects : List ℕ) (t : sound (tables places objects) ≡ true) where
   pub census-lengths : length places ≡ placeTableWords
-  unfolding sound sized
-  census-lengths =
-      eqb-true (length places) placeTableWords
-      (and-left (eqb (length places) placeTableWords) (eqb (length objects) objectTableWords)
-      (and-left (sized (tables places objects)) (soundState (view places objects)) t))
+  census-lengths = places-long (tables places objects) (sound-sized (tables places objects) t)
 
   pub census-links : Linked (capAt places)
-  unfolding sound
-  census-links =
-      sound-linked (view places objects)
-      (sound-facts (view places objects) (and-right (sized (tables places objects)) (soundState (view places objects)) t))
+  census-links = sound-linked (view places objects) (sound-facts (view places objects) (sound-shown (tables places objects) t))
 
 -- what a hypercall, a census and boot come to, and what that says after any events from boot
 pub going-on : (here : Tables) (c : Call) (after : Outcome) → after ≡ outcome here c → (after ≡ outcome here c) × GoesOn here c after

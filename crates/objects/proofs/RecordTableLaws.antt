@@ -1,4 +1,4 @@
--- Laws of the object table: a table and the records that it shows make each other, and a store in a table changes one record.
+-- Laws of the object table: the table of some records shows them, and a store in a table changes one record.
 use Prim.Native.Nat.{ℕ, zero, suc, _+_, _*_, _/_, _%_, _≤_, _<_}
 use mathlib.Core.Path.{_≡_, refl, sym, ap, _∙_, fun-ext}
 use mathlib.Core.Bool.{true, false}
@@ -14,7 +14,7 @@ use Rattle.interface.specs.Basics.{word, put, if_then_else_}
 use Rattle.interface.specs.Places.{State, nothing, kindWord, objectTableWords, objectAt, recordTable}
 use Rattle.interface.proofs.Basics.BoolLaws.{cases, either-way}
 use Rattle.interface.proofs.Basics.PutLaws.{put-same, put-other}
-use Rattle.interface.proofs.Tables.TableLaws.{length-listed, word-listed, shown-tables}
+use Rattle.interface.proofs.Tables.TableLaws.{length-listed, word-listed, words-past, records-past, record-table-back, shown-tables}
 use Rattle.objects.specs.declared.Record.{Record}
 use Rattle.objects.specs.Records.{Sized, wordsOf, storedWord}
 
@@ -61,27 +61,8 @@ unfolding objectAt
 object-at-word table number index l =
     rw (lt-ltb index recordWords l) (let e : number * recordWords + index ≡ recordWords * number + index = omega arith in ap (word table) e)
 
-module _ (table : List ℕ) (size : Sized table) where
-  pub object-at-end : RecordsEnd (objectAt table)
-  unfolding objectAt
-  object-at-end =
-      record {
-        records-end =
-            λ r i l.
-            cases (ltb i recordWords)
-            (λ (t : ltb i recordWords ≡ true). rw t (List·getD-eq-default table 0 (omega arith)))
-            (λ (f : ltb i recordWords ≡ false). rw f);
-        words-end = λ r i l. rw (le-ltb i recordWords l);
-      }
-
-  -- the table of the records that a table shows is that table
-  pub record-table-back : recordTable (objectAt table) ≡ table
-  record-table-back =
-      sym
-      (table-is (objectAt table) table size
-      (λ i l.
-      let e : i ≡ i / recordWords * recordWords + i % recordWords = omega arith in
-      ap (word table) e ∙ object-at-word table (i / recordWords) (i % recordWords) (omega arith)))
+pub object-at-end : (table : List ℕ) → Sized table → RecordsEnd (objectAt table)
+object-at-end table size = record { records-end = records-past table size; words-end = words-past table }
 
 -- words that end where a record does
 abbrev pub WordsEnd : (ℕ → ℕ) → Type 0

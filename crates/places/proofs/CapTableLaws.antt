@@ -1,12 +1,12 @@
--- Laws of the place table: the table of some capabilities shows them, a table is the table of what it shows, and four stores put one capability.
-use Prim.Native.Nat.{ℕ, zero, suc, _+_, _*_, _/_, _%_, _≤_, _<_}
-use mathlib.Core.Path.{_≡_, refl, sym, ap, _∙_, fun-ext}
+-- Laws of the place table: the table of some capabilities shows them, and four stores put one capability.
+use Prim.Native.Nat.{ℕ, _+_, _*_, _/_, _%_, _≤_, _<_}
+use mathlib.Core.Path.{_≡_, refl, sym, _∙_, fun-ext}
 use mathlib.Core.Logic.{_≢_}
 use mathlib.Core.Bool.{true, false}
 use mathlib.Core.List.{List}
 use native.Mathlib.Omega.{arith}
 use lib.Dec.{eqb, ltb}
-use lib.ListN.{length, set, length-set, List·getD-eq-default}
+use lib.ListN.{length, set, length-set}
 use lib.Seq.{lt-length-set, getD-set-same, getD-set-other, ext-getD}
 use borrow.Author.Tests.{eqb-true, eqb-false, lt-ltb, le-ltb}
 use Rattle.words.specs.Sizes.{places, placeWords}
@@ -15,7 +15,7 @@ use Rattle.interface.specs.Places.{Cap, nothing, placeTableWords, capAt, capWor
 use Rattle.interface.specs.Effects.{fills, handed, givenCaps}
 use Rattle.interface.proofs.Basics.BoolLaws.{cases, either-way}
 use Rattle.interface.proofs.Basics.PutLaws.{put-same, put-other}
-use Rattle.interface.proofs.Tables.TableLaws.{length-listed, word-listed, shown-cap}
+use Rattle.interface.proofs.Tables.TableLaws.{length-listed, word-listed, cap-table-back, shown-cap}
 use Rattle.places.specs.Table.{Sized}
 
 -- capabilities that end where the places do
@@ -65,37 +65,7 @@ cap-at-table-below caps p l =
     )
     (at-places-below caps p l)
 
--- a word of a table is a word of the place that it is in
-word-shown : (table : List ℕ) (i : ℕ) → word (capWords (capAt table (i / placeWords))) (i % placeWords) ≡ word table i
-unfolding capAt
-word-shown table i = go (i % placeWords) refl
-  where
-    go : (k : ℕ) → i % placeWords ≡ k → word (capWords (capAt table (i / placeWords))) k ≡ word table i
-    go zero e = ap (word table) (omega arith)
-    go (suc zero) e = ap (word table) (omega arith)
-    go (suc (suc zero)) e = ap (word table) (omega arith)
-    go (suc (suc (suc zero))) e = ap (word table) (omega arith)
-    go (suc (suc (suc (suc k)))) e = absurd (omega arith)
-
--- a table is the table of what it shows
-pub cap-table-back : (table : List ℕ) → Sized table → capTable (capAt table) ≡ table
-cap-table-back table sized =
-    ext-getD 0 (capTable (capAt table)) table (length-cap-table (capAt table) ∙ sym sized)
-    (λ i l. cap-table-word (capAt table) i (rw (length-cap-table (capAt table)) at l) ∙ word-shown table i)
-
--- what a table shows ends where the places do
-pub cap-at-end : (table : List ℕ) → Sized table → CapsEnd (capAt table)
-unfolding capAt
-cap-at-end table sized p l =
-    let past : (i : ℕ) → placeTableWords ≤ i → word table i ≡ 0 = λ i g. List·getD-eq-default table 0 (rw sized g) in
-    rw (
-      past (placeWords * p) (omega arith),
-      past (placeWords * p + 1) (omega arith),
-      past (placeWords * p + 2) (omega arith),
-      past (placeWords * p + 3) (omega arith),
-    )
-
--- putting a capability at a place keeps that end, and so does delegating to a place
+-- putting a capability at a place keeps the end, and so does delegating to a place
 pub put-end : (caps : ℕ → Cap) (p : ℕ) (cap : Cap) → CapsEnd caps → p < places → CapsEnd (put caps p cap)
 put-end caps p cap ends small q l = put-other caps p cap q (λ e. omega arith) ∙ ends q l
 

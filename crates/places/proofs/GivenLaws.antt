@@ -15,8 +15,8 @@ use Rattle.interface.specs.Basics.{put}
 use Rattle.interface.specs.Places.{Cap, live, capAt, capTable}
 use Rattle.interface.specs.Effects.{fills}
 use Rattle.interface.proofs.Basics.BoolLaws.{each-of-four}
+use Rattle.interface.proofs.Tables.TableLaws.{cap-table-back}
 use Rattle.places.specs.Table.{Sized, Given}
-use Rattle.places.proofs.CapTableLaws.{cap-table-back}
 
 -- the code's test: by the source, the permissions that are left, and whether source and destination are live
 abbrev passes : Cap → ℕ → Bool → Bool → Bool

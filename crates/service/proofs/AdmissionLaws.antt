@@ -8,21 +8,22 @@ use Rattle.descriptor.specs.Replies.{statusOf}
 use Rattle.descriptor.specs.declared.Reply.{Reply}
 use Rattle.descriptor.specs.declared.Reply.the-variants.{BadHyp, BadCaller}
 use Rattle.descriptor.specs.declared.ObjectNumber.{ObjectNumber}
-use lib.Dec.{eqb, ltb}
+use lib.Dec.{ltb}
 use lib.ListN.{length}
-use borrow.Author.Tests.{ltb-true, lt-ltb, eq-eqb, ne-eqb, eqb-true}
+use borrow.Author.Tests.{ltb-true, lt-ltb, eq-eqb, ne-eqb}
 use Rattle.words.specs.Sizes.{records}
 use Rattle.descriptor.specs.Numbers.{numbered}
 use Rattle.descriptor.specs.declared.FoundObject.the-variants.{Numbered, Beyond}
 use Rattle.descriptor.proofs.DescriptorLaws.{numbered-so, numbered-inside}
-use Rattle.interface.specs.Places.{State, Tables, sized, tablesOf, EC, kindWord, objectAt, placeTableWords, objectTableWords, tables, view}
-use Rattle.interface.specs.Damage.{soundState, sound, isEc}
+use Rattle.interface.specs.Places.{State, Tables, sized, tablesOf, EC, kindWord, objectAt, objectTableWords, tables, view}
+use Rattle.interface.specs.Damage.{sound, isEc}
 use Rattle.interface.specs.Effects.{run}
 use Rattle.interface.specs.Verdicts.{Call, Verdict, refuse, replyOf, effectsOf, blockOf}
 use Rattle.interface.specs.Rules.{Built, rule, not-built, hypercall, called, judged, after, rules, hypercallReply, hypercallTables, Runs}
 use Rattle.interface.specs.Outcomes.{Outcome, outcome}
 use Rattle.interface.specs.Demand.{tablesAfter}
-use Rattle.interface.proofs.Basics.BoolLaws.{cases, and-left, and-right}
+use Rattle.interface.proofs.Basics.BoolLaws.{cases}
+use Rattle.interface.proofs.Tables.TableLaws.{objects-long, sound-sized}
 use Rattle.interface.proofs.Consequences.ConsequenceLaws.{judged-once, refused-stays, stays-sound}
 use Rattle.interface.specs.History.{hypercalls}
 use Rattle.capabilities.specs.Callers.{Called}
@@ -134,9 +135,9 @@ module _ (places objects : List ℕ) (c : Call) where
     judged-called = judged-once (tables places objects) c ∙ (rw (k .is-sound, is-rule, k .is-ec))
 
     tables-so : hypercallTables (tables places objects) c ≡ tablesOf (run (effectsOf (verdict s c)) s)
-    unfolding hypercallTables after judged sound
+    unfolding hypercallTables after judged
     tables-so =
-        let fit : sized (tables places objects) ≡ true = and-left (sized (tables places objects)) (soundState s) (k .is-sound) in
+        let fit : sized (tables places objects) ≡ true = sound-sized (tables places objects) (k .is-sound) in
         let is-verdict : rules s c ≡ verdict s c = rw fit at judged-called in
         rw (fit, is-verdict)
 
@@ -173,11 +174,7 @@ module _ (places objects : List ℕ) (t : sound (tables places objects) ≡ true
 
 -- sound tables have their lengths
 pub objects-lengths : (places objects : List ℕ) → sound (tables places objects) ≡ true → length objects ≡ objectTableWords
-unfolding sound sized
-objects-lengths places objects t =
-    eqb-true (length objects) objectTableWords
-    (and-right (eqb (length places) placeTableWords) (eqb (length objects) objectTableWords)
-    (and-left (sized (tables places objects)) (soundState (view places objects)) t))
+objects-lengths places objects t = objects-long (tables places objects) (sound-sized (tables places objects) t)
 
 -- sound tables stay sound: what a hypercall on them comes to
 pub served : (here : Tables) (c : Call) (after : Outcome) → sound here ≡ true → after ≡ outcome here c → (after ≡ outcome here c) × (sound (after .tables) ≡ true)

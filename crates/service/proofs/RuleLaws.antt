@@ -8,11 +8,10 @@ use native.Mathlib.Omega.{arith}
 use borrow.Author.Tests.{eqb-true, eqb-false, ne-eqb, leb-true, le-leb}
 use Rattle.descriptor.specs.declared.Reply.{Reply}
 use Rattle.interface.specs.Basics.{if_then_else_}
-use Rattle.interface.specs.Places.{State, sized, tables, view}
-use Rattle.interface.specs.Damage.{soundState, sound}
+use Rattle.interface.specs.Places.{State, tables, view}
 use Rattle.interface.specs.RangeDescriptors.{reading, malformed}
 use Rattle.interface.specs.Effects.{Effect, run}
-use Rattle.interface.specs.Verdicts.{Call, Verdict, refuse, grant, require_else_then_, replyOf, effectsOf, blockOf}
+use Rattle.interface.specs.Verdicts.{Call, Verdict, refuse, grant, replyOf, effectsOf, blockOf}
 use Rattle.interface.specs.Verdicts.{CALL, CREATE-PD, CREATE-EC, CREATE-SC, CREATE-PT, CREATE-SM, REVOKE, LOOKUP, SM-CTRL}
 use Rattle.interface.specs.Creations.{creation, createPd, createEc, createSc, createPt, createSm}
 use Rattle.interface.specs.Revoke.{revoke}
@@ -21,6 +20,7 @@ use Rattle.interface.specs.Semaphores.{smCtrl}
 use Rattle.interface.specs.PortalCalls.{portalCall}
 use Rattle.interface.specs.Rules.{rule, not-built, hypercall, Runs}
 use Rattle.interface.proofs.Basics.BoolLaws.{cases, and-left, and-right, both}
+use Rattle.interface.proofs.Tables.TableLaws.{sound-sized}
 use Rattle.interface.proofs.Consequences.ConsequenceLaws.{tables-back}
 use Rattle.capabilities.specs.Callers.{Called}
 use Rattle.service.specs.Admission.{isBuilt}
@@ -186,11 +186,11 @@ lookup-steps s c =
 
 pub lookup-runs : (places objects : List ℕ) (caller : ℕ) (c : Call) (reply : Reply) → Called places objects caller →
     reply ≡ replyOf (lookup (view places objects) c) → Runs lookup c (tables places objects) (tables places objects) reply
-unfolding run sound
+unfolding run
 lookup-runs places objects caller c reply called e =
     record {
       replies = e;
       leaves =
           rw (lookup-steps (view places objects) c)
-          (sym (tables-back (tables places objects) (and-left (sized (tables places objects)) (soundState (view places objects)) (called .is-sound))));
+          (sym (tables-back (tables places objects) (sound-sized (tables places objects) (called .is-sound))));
     }

@@ -4,16 +4,15 @@ use mathlib.Core.Path.{_≡_, sym, _∙_}
 use mathlib.Core.Bool.{Bool, true, false, not, _&&_}
 use mathlib.Core.List.{List}
 use native.Mathlib.Omega.{arith}
-use lib.Dec.{eqb}
 use lib.ListN.{length}
-use borrow.Author.Tests.{eqb-true}
 use Rattle.words.specs.Sizes.{stride, places, records}
 use Rattle.interface.specs.Basics.{allBelow}
-use Rattle.interface.specs.Places.{Cap, State, Tables, nothing, placeTableWords, objectTableWords, sized, shown, placesIn}
+use Rattle.interface.specs.Places.{State, Tables, nothing, placeTableWords, objectTableWords, sized, shown, tables, placesIn}
 use Rattle.interface.specs.Damage.{fixed-place, used-first, pdsBelow, pd-rule, soundState, sound}
-use Rattle.interface.proofs.Basics.BoolLaws.{cases, and-left, and-right, both, same-test, not-both}
+use Rattle.interface.proofs.Basics.BoolLaws.{cases, both, same-test, not-both}
 use Rattle.interface.proofs.Basics.BelowLaws.{all-below-at, all-below}
 use Rattle.interface.proofs.Basics.LoopLaws.{answered-yes, answered-no}
+use Rattle.interface.proofs.Tables.TableLaws.{places-long, objects-long, sound-sized, sound-shown}
 use Rattle.interface.proofs.Sound.Soundness.{OfRecords, OfPlaces, sound-facts, facts-sound}
 use Rattle.record_rules.specs.RecordKeeping.{recordsIn, recordKeeps, Numbered, Kept, countedPds}
 use Rattle.record_rules.specs.declared.CountedPds.{CountedPds}
@@ -60,29 +59,21 @@ module _ (s : State) where
       })
 
 -- tables that have the right lengths
-module _ (place-table object-table : List ℕ) (answer : Bool) (asked : answer ≡ sized (record { places = place-table; objects = object-table }))
-    (yes : not answer ≡ false) where
-  abbrev places-right : Bool
-  places-right = eqb (length place-table) placeTableWords
+module _ (place-table object-table : List ℕ) (answer : Bool) (asked : answer ≡ sized (tables place-table object-table)) (yes : not answer ≡ false) where
+  both-right : sized (tables place-table object-table) ≡ true
+  both-right = answered-yes answer (sized (tables place-table object-table)) asked yes
 
-  abbrev objects-right : Bool
-  objects-right = eqb (length object-table) objectTableWords
+  pub places-right : length place-table ≡ placeTableWords
+  places-right = places-long (tables place-table object-table) both-right
 
-  both-right : (places-right && objects-right) ≡ true
-  unfolding sized
-  both-right = answered-yes answer (places-right && objects-right) asked yes
-
-  pub places-long : length place-table ≡ placeTableWords
-  places-long = eqb-true (length place-table) placeTableWords (and-left places-right objects-right both-right)
-
-  pub objects-long : length object-table ≡ objectTableWords
-  objects-long = eqb-true (length object-table) objectTableWords (and-right places-right objects-right both-right)
+  pub objects-right : length object-table ≡ objectTableWords
+  objects-right = objects-long (tables place-table object-table) both-right
 
   -- and used records that come first, and PDs that keep their rule and have been counted
   pub numbered-so : {pds : ℕ} (found : CountedPds) → found ≡ countedPds (recordsIn object-table) → found ≡ InTurn pds → Numbered object-table pds
   numbered-so {pds} found is-found in-turn =
       let kept = turns-kept (recordsIn object-table) pds (sym is-found ∙ in-turn) in
-      record { long = objects-long; used = kept .0; in-turn = kept .1; counted = kept .2 }
+      record { long = objects-right; used = kept .0; in-turn = kept .1; counted = kept .2 }
 
 -- and other records that keep theirs
 pub kept-so : {table : List ℕ} {pds : ℕ} → Numbered table pds → (kept : Bool) → kept ≡ allBelow records (recordKeeps (recordsIn table)) → not kept ≡ false →
@@ -95,8 +86,7 @@ module _ (tables : Tables) where
   not-sound n = cases (sound tables) (λ (t : sound tables ≡ true). absurd (n t)) (λ (f : sound tables ≡ false). sym f)
 
   parts : sound tables ≡ true → Parts (shown tables)
-  unfolding sound
-  parts h = sound-parts (shown tables) (and-right (sized tables) (soundState (shown tables)) h)
+  parts h = sound-parts (shown tables) (sound-shown tables h)
 
   pub pds-broken : (found : CountedPds) → found ≡ countedPds (recordsIn (tables .objects)) → found ≡ OutOfTurn → false ≡ sound tables
   unfolding used-first pdsBelow pd-rule
@@ -111,8 +101,7 @@ module _ (tables : Tables) where
 
   module _ (answer : Bool) where
     pub sizes-broken : answer ≡ sized tables → not answer ≡ true → false ≡ sound tables
-    unfolding sound
-    sizes-broken e f = not-sound (λ h. answered-no answer (sized tables) e f (and-left (sized tables) (soundState (shown tables)) h))
+    sizes-broken e f = not-sound (λ h. answered-no answer (sized tables) e f (sound-sized tables h))
 
     pub records-broken : answer ≡ allBelow records (recordKeeps (recordsIn (tables .objects))) → not answer ≡ true → false ≡ sound tables
     records-broken e f =

@@ -14,8 +14,9 @@ use Rattle.interface.specs.Places.{State, capAt, capTable, placesIn}
 use Rattle.interface.specs.Effects.{run, filled}
 use Rattle.interface.specs.Message.{headWords, untypedCount, typedCount, translateWindow, delegateWindow, itemWords, descriptorAt, secondAt, delegateBit, receivedWord, Item, Moved, itemOf, untypedCopied, carried, transfer}
 use Rattle.interface.proofs.Tables.TurnLaws.{run-append}
+use Rattle.interface.proofs.Tables.TableLaws.{cap-table-back}
 use Rattle.places.specs.Table.{Sized}
-use Rattle.places.proofs.CapTableLaws.{length-cap-table, cap-table-back}
+use Rattle.places.proofs.CapTableLaws.{length-cap-table}
 use Rattle.blocks.specs.Fitting.{Blocks}
 use Rattle.blocks.proofs.BlockLaws.{counts-fit, copied-length}
 use Rattle.delegation.specs.Delegating.{LiveLinks}

@@ -14,10 +14,11 @@ use Rattle.interface.specs.Places.{Cap, nothing, capAt, capTable}
 use Rattle.interface.specs.Effects.{among, below, stripped, cutCaps}
 use Rattle.interface.proofs.Basics.BoolLaws.{cases}
 use Rattle.interface.proofs.Basics.PutLaws.{put-same, put-other}
+use Rattle.interface.proofs.Tables.TableLaws.{cap-table-back}
 use Rattle.interface.proofs.History.CutLaws.{stripped-none, stripped-some}
 use Rattle.marks.specs.PlaceBits.{bitAt, RangeToo, NextMarked}
 use Rattle.places.specs.Table.{Sized}
-use Rattle.places.proofs.CapTableLaws.{length-cap-table, cap-table-same, cap-at-table-below, cap-table-back}
+use Rattle.places.proofs.CapTableLaws.{length-cap-table, cap-table-same, cap-at-table-below}
 use Rattle.tree.specs.Walks.{Marked, strippedWhere}
 
 -- what is stored at a place is what stripping leaves of it

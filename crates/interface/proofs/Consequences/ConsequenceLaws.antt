@@ -1,20 +1,19 @@
 -- What follows from the rules for tables: sound ones stay sound, DAMAGED is answered exactly where they are not, and a refused event changes nothing.
-use Prim.Native.Nat.{ℕ, zero, suc, _+_, _*_, _/_, _%_, _≤_, _<_}
-use mathlib.Core.Path.{_≡_, refl, sym, ap, _∙_}
+use Prim.Native.Nat.{ℕ, _≤_, _<_}
+use mathlib.Core.Path.{_≡_, refl, ap, _∙_}
 use mathlib.Core.Logic.{_↔_}
 use mathlib.Core.Bool.{Bool, true, false, true≢false}
 use mathlib.Core.List.{List, [], _∷_}
 use native.Mathlib.Omega.{arith}
-use lib.Dec.{eqb, ltb}
-use lib.ListN.{length, List·getD-eq-default}
-use lib.Seq.{ext-getD}
-use borrow.Author.Tests.{eqb-true, eqb-false, lt-ltb, le-ltb}
-use Rattle.words.specs.Sizes.{places, placeWords, records, recordWords}
+use lib.Dec.{eqb}
+use lib.ListN.{List·getD-eq-default}
+use borrow.Author.Tests.{eqb-false}
+use Rattle.words.specs.Sizes.{places, records, recordWords}
 use Rattle.descriptor.specs.Replies.{statusOf}
 use Rattle.descriptor.specs.declared.Reply.{Reply}
 use Rattle.descriptor.specs.declared.Reply.the-variants.{Success, BadHyp, Damaged, BadCaller}
-use Rattle.interface.specs.Basics.{if_then_else_, word, put, putFrom, listed}
-use Rattle.interface.specs.Places.{Cap, State, Tables, parentless, kindOf, greatestOf, placeTableWords, objectTableWords, sized, capAt, objectAt, shown, capWords, placeTable, objectTable, tablesOf}
+use Rattle.interface.specs.Basics.{if_then_else_, word, put, putFrom}
+use Rattle.interface.specs.Places.{Cap, State, Tables, parentless, kindOf, greatestOf, sized, shown, tablesOf}
 use Rattle.interface.specs.Boot.{boot}
 use Rattle.interface.specs.Damage.{isEc, soundState, sound}
 use Rattle.interface.specs.Effects.{Effect, give, make, hold, cut, store, fills, handed, act, run}
@@ -29,91 +28,33 @@ use Rattle.interface.specs.Census.{CensusResult, counted, censusOf}
 use Rattle.interface.specs.History.{Event, hypercalls, counts}
 use Rattle.interface.specs.Demand.{tablesAfter, tablesAfterAll}
 use Rattle.interface.specs.Consequences.{StaysSound, DamagedExactly, RefusedStays, BlocksStay}
-use Rattle.interface.proofs.Basics.BoolLaws.{cases, and-left, and-right, one-choice, either-way}
+use Rattle.interface.proofs.Basics.BoolLaws.{cases, one-choice, either-way}
 use Rattle.interface.proofs.Basics.PutLaws.{put-other, put-keeps, put-from-past}
 use Rattle.interface.proofs.Sound.Soundness.{sound-facts, facts-sound}
 use Rattle.interface.proofs.Tables.Steps.{Fits, FitInTurn}
 use Rattle.interface.proofs.Sound.RulesFit.{or-else, rules-fit}
 use Rattle.interface.proofs.History.CutLaws.{cut-nothing}
-use Rattle.interface.proofs.Tables.TableLaws.{length-listed, word-listed, Ends, state-sound}
+use Rattle.interface.proofs.Tables.TableLaws.{cap-at-end, cap-table-back, records-past, words-past, record-table-back, places-long, objects-long, sound-sized, sound-shown, Ends, state-sound}
 use Rattle.interface.proofs.History.BootLaws.{boot-sound, boot-past, boot-records, boot-words}
 use Rattle.interface.proofs.History.DemandLaws.{after-sound}
 
--- a function that tells a list's words lists them
-listed-back : (list : List ℕ) (f : ℕ → ℕ) (n : ℕ) → length list ≡ n → ((i : ℕ) → f i ≡ word list i) → listed n f ≡ list
-listed-back list f n e h = ext-getD 0 (listed n f) list (length-listed f n ∙ sym e) (λ i l. word-listed f n i (rw (length-listed f n) at l) ∙ h i)
-
--- the words of a capability that a table shows are the table's
-cap-word : (table : List ℕ) (p k : ℕ) → k < placeWords → word (capWords (capAt table p)) k ≡ word table (placeWords * p + k)
-unfolding capAt
-cap-word table p zero l = ap (word table) (omega arith)
-cap-word table p (suc zero) l = refl
-cap-word table p (suc (suc zero)) l = refl
-cap-word table p (suc (suc (suc zero))) l = refl
-cap-word table p (suc (suc (suc (suc k)))) l = absurd (omega arith)
-
--- a word of a record that a table shows is the table's
-record-word : (table : List ℕ) (r i : ℕ) → i < recordWords → objectAt table r i ≡ word table (recordWords * r + i)
-unfolding objectAt
-record-word table r i l = rw (lt-ltb i recordWords l)
-
--- tables that have their lengths
+-- what tables of the right lengths show ends where they do, and they are the tables of what they show
 module _ (tables : Tables) (fit : sized tables ≡ true) where
-  places-long : length (tables .places) ≡ placeTableWords
-  unfolding sized
-  places-long =
-      eqb-true (length (tables .places)) placeTableWords
-      (and-left (eqb (length (tables .places)) placeTableWords) (eqb (length (tables .objects)) objectTableWords) fit)
-
-  objects-long : length (tables .objects) ≡ objectTableWords
-  unfolding sized
-  objects-long =
-      eqb-true (length (tables .objects)) objectTableWords
-      (and-right (eqb (length (tables .places)) placeTableWords) (eqb (length (tables .objects)) objectTableWords) fit)
-
-  -- their words past the end are 0, so what they show ends where they do
-  past-places : (i : ℕ) → placeTableWords ≤ i → word (tables .places) i ≡ 0
-  past-places i g = List·getD-eq-default (tables .places) 0 (omega (arith, places-long))
-
-  past-objects : (i : ℕ) → objectTableWords ≤ i → word (tables .objects) i ≡ 0
-  past-objects i g = List·getD-eq-default (tables .objects) 0 (omega (arith, objects-long))
-
   pub shown-ends : Ends (shown tables)
-  unfolding capAt objectAt
   shown-ends =
       record {
-        places-end =
-            λ p g.
-            rw (
-              past-places (placeWords * p) (omega arith),
-              past-places (placeWords * p + 1) (omega arith),
-              past-places (placeWords * p + 2) (omega arith),
-              past-places (placeWords * p + 3) (omega arith),
-            );
-        records-end =
-            λ r i g.
-            cases (ltb i recordWords) (λ (t : ltb i recordWords ≡ true). rw (t, past-objects (recordWords * r + i) (omega arith)))
-            (λ (f : ltb i recordWords ≡ false). rw f);
-        words-end = λ r i g. rw (le-ltb i recordWords g);
+        places-end = cap-at-end (tables .places) (places-long tables fit);
+        records-end = records-past (tables .objects) (objects-long tables fit);
+        words-end = words-past (tables .objects);
       }
 
-  -- they are the tables of what they show
-  places-back : placeTable (shown tables) ≡ tables .places
-  places-back =
-      listed-back (tables .places) (λ i. word (capWords (shown tables .caps (i / placeWords))) (i % placeWords)) placeTableWords places-long
-      (λ i.
-      let e : placeWords * (i / placeWords) + i % placeWords ≡ i = omega arith in
-      cap-word (tables .places) (i / placeWords) (i % placeWords) (omega arith) ∙ ap (word (tables .places)) e)
-
-  objects-back : objectTable (shown tables) ≡ tables .objects
-  objects-back =
-      listed-back (tables .objects) (λ i. shown tables .objects (i / recordWords) (i % recordWords)) objectTableWords objects-long
-      (λ i.
-      let e : recordWords * (i / recordWords) + i % recordWords ≡ i = omega arith in
-      record-word (tables .objects) (i / recordWords) (i % recordWords) (omega arith) ∙ ap (word (tables .objects)) e)
-
   pub tables-back : tablesOf (shown tables) ≡ tables
-  tables-back = λ i. record { places = places-back i; objects = objects-back i }
+  tables-back =
+      λ i.
+      record {
+        places = cap-table-back (tables .places) (places-long tables fit) i;
+        objects = record-table-back (tables .objects) (objects-long tables fit) i;
+      }
 
 -- a state with one place or one record changed inside the tables ends where it did
 place-ends : (place : ℕ) (cap : Cap) (s : State) → place < places → Ends s → Ends (record { caps = put (s .caps) place cap; objects = s .objects })
@@ -165,8 +106,8 @@ after-ends s c ends = run-ends (effectsOf (rules s c)) s (rules-fit s c) ends
 pub stays-sound : StaysSound
 unfolding sound tablesAfter hypercallTables
 stays-sound tables (hypercalls c) h =
-    let fit = and-left (sized tables) (soundState (shown tables)) h in
-    let facts = sound-facts (shown tables) (and-right (sized tables) (soundState (shown tables)) h) in
+    let fit = sound-sized tables h in
+    let facts = sound-facts (shown tables) (sound-shown tables h) in
     let next = after (shown tables) c in
     rw fit (state-sound next (after-ends (shown tables) c (shown-ends tables fit)) (facts-sound next (after-sound (shown tables) c facts)))
 stays-sound tables (counts place list) h = h

@@ -7,7 +7,7 @@ use mathlib.Core.List.{List, [], _∷_}
 use native.Mathlib.Omega.{arith}
 use lib.Dec.{eqb, ltb}
 use lib.ListN.{length}
-use borrow.Author.Tests.{ltb-true, eqb-true, eq-eqb}
+use borrow.Author.Tests.{ltb-true, eq-eqb}
 use Rattle.words.specs.Sizes.{places, records}
 use Rattle.descriptor.specs.declared.Fault.{Fault}
 use Rattle.descriptor.specs.declared.Fault.the-variants.{NoFault, Lengths, AtRecord, AtPlace}
@@ -15,8 +15,9 @@ use Rattle.interface.specs.Basics.{all}
 use Rattle.interface.specs.Places.{State, Tables, placeTableWords, objectTableWords, sized, shown}
 use Rattle.interface.specs.Damage.{Rule, rulesOfDamage, keeps, soundState, sound, firstFault, fault}
 use Rattle.interface.specs.DamageReport.{recordKeeps, placeKeeps, Intact, FirstAtRecord, FirstAtPlace, DamageNamed}
-use Rattle.interface.proofs.Basics.BoolLaws.{cases, and-left, and-right, both}
+use Rattle.interface.proofs.Basics.BoolLaws.{cases, both}
 use Rattle.interface.proofs.Basics.BelowLaws.{below-suc, lowest-failure, failure-fails, below-failure, no-failure, all-hold}
+use Rattle.interface.proofs.Tables.TableLaws.{places-long, objects-long}
 use Rattle.interface.proofs.Sound.Soundness.{kept-records, kept-places, keeps-rule, all-head, all-tail}
 
 -- the two kinds of damage that stand somewhere, each named by the report as it is
@@ -163,11 +164,7 @@ lengths-wrong tables =
       (λ wrong.
           cases (places-right && objects-right)
           (λ (t : (places-right && objects-right) ≡ true).
-          absurd
-          (wrong (
-            eqb-true (length (tables .places)) placeTableWords (and-left places-right objects-right t),
-            eqb-true (length (tables .objects)) objectTableWords (and-right places-right objects-right t),
-          )))
+          absurd (wrong (places-long tables t, objects-long tables t)))
           (λ (f : (places-right && objects-right) ≡ false). rw f)),
     )
 

@@ -1,21 +1,21 @@
--- Tables and what they show: the tables of a state that ends where the tables do show that state.
+-- Tables and what they show: a table is that of what it shows, the tables of a state that ends where the tables do show that state, and sound tables have their lengths.
 use Prim.Native.Nat.{ℕ, zero, suc, _+_, _*_, _/_, _%_, _≤_, _<_}
-use mathlib.Core.Path.{_≡_, refl, sym, ap₂, _∙_, subst, fun-ext}
+use mathlib.Core.Path.{_≡_, refl, sym, ap, ap₂, _∙_, subst, fun-ext}
 use mathlib.Core.Bool.{true, false}
-use mathlib.Core.List.{[], _∷_}
+use mathlib.Core.List.{List, [], _∷_}
 use native.Mathlib.Decide.{le-ind}
 use native.Mathlib.Nat.{le-refl}
 use native.Mathlib.Numerals.{add-one}
 use native.Mathlib.Omega.{arith}
 use lib.Dec.{eqb, ltb}
 use lib.ListN.{length, take, length-append, List·getD-append, List·getD-eq-default}
-use lib.Seq.{take-all, take-append-le, getD-at}
-use borrow.Author.Tests.{eq-eqb, ltb-true, ltb-false}
+use lib.Seq.{take-all, take-append-le, getD-at, ext-getD}
+use borrow.Author.Tests.{eq-eqb, eqb-true, lt-ltb, le-ltb, ltb-true, ltb-false}
 use Rattle.words.specs.Sizes.{places, placeWords, records, recordWords}
 use Rattle.interface.specs.Basics.{word, listed}
-use Rattle.interface.specs.Places.{State, nothing, placeTableWords, objectTableWords, sized, capAt, objectAt, shown, capWords, placeTable, objectTable, tablesOf}
+use Rattle.interface.specs.Places.{State, Tables, nothing, placeTableWords, objectTableWords, sized, capAt, objectAt, shown, capWords, capTable, recordTable, placeTable, objectTable, tablesOf}
 use Rattle.interface.specs.Damage.{soundState, sound}
-use Rattle.interface.proofs.Basics.BoolLaws.{cases, both}
+use Rattle.interface.proofs.Basics.BoolLaws.{cases, and-left, and-right, both}
 use Rattle.interface.proofs.Basics.BelowLaws.{below-suc}
 
 module _ {A : Type 0} (f : ℕ → A) where
@@ -42,6 +42,89 @@ module _ (f : ℕ → ℕ) where
 
   pub word-past : (n i : ℕ) → n ≤ i → word (listed n f) i ≡ 0
   word-past n i l = List·getD-eq-default (listed n f) 0 (rw (length-listed f n) l)
+
+-- a function that tells a list's words lists them
+listed-back : (list : List ℕ) (f : ℕ → ℕ) (n : ℕ) → length list ≡ n → ((i : ℕ) → f i ≡ word list i) → listed n f ≡ list
+listed-back list f n e h = ext-getD 0 (listed n f) list (length-listed f n ∙ sym e) (λ i l. word-listed f n i (rw (length-listed f n) at l) ∙ h i)
+
+-- the words of a capability that a table shows are the table's
+cap-word : (table : List ℕ) (p k : ℕ) → k < placeWords → word (capWords (capAt table p)) k ≡ word table (placeWords * p + k)
+unfolding capAt
+cap-word table p zero l = ap (word table) (omega arith)
+cap-word table p (suc zero) l = refl
+cap-word table p (suc (suc zero)) l = refl
+cap-word table p (suc (suc (suc zero))) l = refl
+cap-word table p (suc (suc (suc (suc k)))) l = absurd (omega arith)
+
+-- a word of a record that a table shows is the table's, and there is none past a record's words
+record-word : (table : List ℕ) (r i : ℕ) → i < recordWords → objectAt table r i ≡ word table (recordWords * r + i)
+unfolding objectAt
+record-word table r i l = rw (lt-ltb i recordWords l)
+
+pub words-past : (table : List ℕ) (r i : ℕ) → recordWords ≤ i → objectAt table r i ≡ 0
+unfolding objectAt
+words-past table r i l = rw (le-ltb i recordWords l)
+
+-- a list of the place table's length: its words past the end are 0, so what it shows ends where the places do, and it is the table of what it shows
+module _ (table : List ℕ) (long : length table ≡ placeTableWords) where
+  past-end : (i : ℕ) → placeTableWords ≤ i → word table i ≡ 0
+  past-end i g = List·getD-eq-default table 0 (rw long g)
+
+  pub cap-at-end : (p : ℕ) → places ≤ p → capAt table p ≡ nothing
+  unfolding capAt
+  cap-at-end p g =
+      rw (
+        past-end (placeWords * p) (omega arith),
+        past-end (placeWords * p + 1) (omega arith),
+        past-end (placeWords * p + 2) (omega arith),
+        past-end (placeWords * p + 3) (omega arith),
+      )
+
+  pub cap-table-back : capTable (capAt table) ≡ table
+  cap-table-back =
+      listed-back table (λ i. word (capWords (capAt table (i / placeWords))) (i % placeWords)) placeTableWords long
+      (λ i.
+      let e : placeWords * (i / placeWords) + i % placeWords ≡ i = omega arith in
+      cap-word table (i / placeWords) (i % placeWords) (omega arith) ∙ ap (word table) e)
+
+-- and so is a list of the object table's length with the records
+module _ (table : List ℕ) (long : length table ≡ objectTableWords) where
+  pub records-past : (r i : ℕ) → records ≤ r → objectAt table r i ≡ 0
+  unfolding objectAt
+  records-past r i g =
+      cases (ltb i recordWords) (λ (t : ltb i recordWords ≡ true). rw t (List·getD-eq-default table 0 (omega arith)))
+      (λ (f : ltb i recordWords ≡ false). rw f)
+
+  pub record-table-back : recordTable (objectAt table) ≡ table
+  record-table-back =
+      listed-back table (λ i. objectAt table (i / recordWords) (i % recordWords)) objectTableWords long
+      (λ i.
+      let e : recordWords * (i / recordWords) + i % recordWords ≡ i = omega arith in
+      record-word table (i / recordWords) (i % recordWords) (omega arith) ∙ ap (word table) e)
+
+-- tables that have their lengths
+module _ (tables : Tables) (fit : sized tables ≡ true) where
+  pub places-long : length (tables .places) ≡ placeTableWords
+  unfolding sized
+  places-long =
+      eqb-true (length (tables .places)) placeTableWords
+      (and-left (eqb (length (tables .places)) placeTableWords) (eqb (length (tables .objects)) objectTableWords) fit)
+
+  pub objects-long : length (tables .objects) ≡ objectTableWords
+  unfolding sized
+  objects-long =
+      eqb-true (length (tables .objects)) objectTableWords
+      (and-right (eqb (length (tables .places)) placeTableWords) (eqb (length (tables .objects)) objectTableWords) fit)
+
+-- sound tables have them, and show a state that keeps the rules
+module _ (tables : Tables) (h : sound tables ≡ true) where
+  pub sound-sized : sized tables ≡ true
+  unfolding sound
+  sound-sized = and-left (sized tables) (soundState (shown tables)) h
+
+  pub sound-shown : soundState (shown tables) ≡ true
+  unfolding sound
+  sound-shown = and-right (sized tables) (soundState (shown tables)) h
 
 -- two states are the same where they show the same
 pub state-same : (a b : State) → ((p : ℕ) → a .caps p ≡ b .caps p) → ((r i : ℕ) → a .objects r i ≡ b .objects r i) → a ≡ b

@@ -5,7 +5,7 @@ use borrow.Author.Needs.{needs}
 use Rattle.interface.specs.Places.{tables, view}
 use Rattle.interface.specs.Damage.{firstFault, fault}
 use Rattle.soundness.specs.RuleNumbers.{firstRule, lastRule}
-use Rattle.soundness.proofs.KeepingLaws.{places-long, objects-long}
+use Rattle.soundness.proofs.KeepingLaws.{places-right, objects-right}
 use Rattle.soundness.proofs.FaultLaws.{rulesFrom, fault-lengths, fault-starts, fault-record, fault-place, fault-next, fault-none}
 use Rattle.soundness.proofs.first_fault.Statement.{statement}
 use Rattle.soundness.proofs.first_fault.Tie as tie
@@ -26,13 +26,13 @@ loop-holds : tie.Need-loop-holds Inv-loop μ-loop
 loop-holds c = search (fault-starts, needs)
 
 lowest-record-requires : tie.Need-lowest-record-requires Inv-loop μ-loop
-lowest-record-requires c κs = search (objects-long, needs)
+lowest-record-requires c κs = search (objects-right, needs)
 
 returns-2 : tie.Need-returns-2 Inv-loop μ-loop
 returns-2 c = search (fault-record, needs)
 
 lowest-place-requires : tie.Need-lowest-place-requires Inv-loop μ-loop
-lowest-place-requires c κs = search (places-long, objects-long, needs)
+lowest-place-requires c κs = search (places-right, objects-right, needs)
 
 returns-3 : tie.Need-returns-3 Inv-loop μ-loop
 returns-3 c = search (fault-place, needs)

@@ -1,7 +1,7 @@
 -- Each way out but the last is a part of the tables that breaks a rule; once the lengths and the records are right the places decide.
 use borrow.Author.Needs.{needs}
 use Rattle.interface.proofs.Basics.LoopLaws.{answered-yes}
-use Rattle.soundness.proofs.KeepingLaws.{places-long, objects-long, numbered-so, kept-so, sizes-broken, pds-broken, records-broken, hypervisor-broken, places-decide}
+use Rattle.soundness.proofs.KeepingLaws.{places-right, objects-right, numbered-so, kept-so, sizes-broken, pds-broken, records-broken, hypervisor-broken, places-decide}
 use Rattle.soundness.proofs.is_sound.Statement.{statement}
 use Rattle.soundness.proofs.is_sound.Tie as tie
 
@@ -12,7 +12,7 @@ returns : tie.Need-returns
 returns c = search (sizes-broken, needs)
 
 pds-in-turn-requires : tie.Need-pds-in-turn-requires
-pds-in-turn-requires c κs = search (objects-long, needs)
+pds-in-turn-requires c κs = search (objects-right, needs)
 
 enum-known-pds : tie.Need-enum-known-pds
 enum-known-pds c = search needs
@@ -32,7 +32,7 @@ returns-3 : tie.Need-returns-3
 returns-3 c = search (records-broken, needs)
 
 hypervisor-keeps-requires : tie.Need-hypervisor-keeps-requires
-hypervisor-keeps-requires c κs = search (places-long, needs)
+hypervisor-keeps-requires c κs = search (places-right, needs)
 
 returns-4 : tie.Need-returns-4
 returns-4 c = search (hypervisor-broken, needs)
@@ -43,7 +43,7 @@ places-keep-requires c κs =
     let counted = found .before .before in
     let numbered =
     numbered-so _ _ _ (counted .before .before .are-sized .ensures) (counted .before .if1 .left) _ (counted .pds-in-turn .ensures) (found .pds .given .1) in (
-      search (places-long, needs),
+      search (places-right, needs),
       kept-so numbered _ (c .before .before .before .records-keep .ensures) (c .before .before .if2 .left),
       answered-yes _ _ (c .before .hypervisor-keeps .ensures) (c .if3 .left),
     )
