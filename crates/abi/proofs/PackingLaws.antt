@@ -1,7 +1,7 @@
 -- Packing: what is joined fits, and what is packed is what was answered.
 use Prim.Native.Nat.{ℕ, _<_}
 use mathlib.Core.Path.{_≡_, sym, ap, _∙_}
-use mathlib.Core.Bool.{Bool, true, false, not}
+use mathlib.Core.Bool.{true, false, not}
 use mathlib.Core.List.{List, [], _∷_}
 use native.Mathlib.Omega.{arith}
 use lib.Dec.{ltb}
@@ -10,13 +10,13 @@ use Rattle.words.specs.Sizes.{places, records}
 use Rattle.descriptor.specs.declared.Reply.{Reply}
 use Rattle.descriptor.specs.declared.Fault.{Fault}
 use Rattle.descriptor.specs.declared.Fault.the-variants.{NoFault, Lengths, AtRecord, AtPlace}
-use Rattle.interface.specs.Basics.{if_then_else_, lowest}
+use Rattle.interface.specs.Basics.{lowest}
 use Rattle.interface.specs.Places.{State, Tables, sized, shown, tables}
 use Rattle.interface.specs.Damage.{Rule, rulesOfDamage, firstFault, fault}
 use Rattle.interface.specs.Census.{CensusResult}
 use Rattle.interface.specs.Outcomes.{Booted, Outcome}
 use Rattle.interface.proofs.Basics.BoolLaws.{cases}
-use Rattle.abi.specs.Packing.{packed, packedFault, Booting, booting, Calling, calling, Counting, counting}
+use Rattle.abi.specs.Packing.{packed, packedFault, booting, calling, counting}
 
 -- the place that a fault names, or 0
 abbrev placeIn : Fault → ℕ

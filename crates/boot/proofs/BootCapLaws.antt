@@ -1,19 +1,19 @@
 -- What each record and each place holds at boot: what the definition gives on each way out of the function that makes it.
-use Prim.Native.Nat.{ℕ, zero, suc, _+_, _-_, _≤_, _<_}
-use mathlib.Core.Path.{_≡_, refl, ap, _∙_}
+use Prim.Native.Nat.{ℕ, _+_, _-_, _≤_, _<_}
+use mathlib.Core.Path.{_≡_, ap, _∙_}
 use mathlib.Core.Bool.{Bool, true, false, _&&_}
 use mathlib.Core.List.{[], _∷_}
-use lib.Dec.{eqb, leb, ltb}
+use lib.Dec.{leb, ltb}
 use borrow.Author.Tests.{lt-ltb, le-ltb, eq-eqb, ne-eqb, leb-true, ltb-true}
 use native.Mathlib.Omega.{arith}
-use Rattle.words.specs.Sizes.{memory, io, object, records, domainOf, spaceOf, selectorOf}
+use Rattle.words.specs.Sizes.{object, records, domainOf, spaceOf, selectorOf}
 use Rattle.descriptor.specs.declared.ObjectNumber.{ObjectNumber}
 use Rattle.descriptor.specs.declared.FoundObject.{FoundObject}
 use Rattle.descriptor.specs.declared.FoundObject.the-variants.{Numbered, Beyond}
 use Rattle.descriptor.specs.Numbers.{numbered}
 use Rattle.descriptor.proofs.DescriptorLaws.{numbered-so}
 use Rattle.interface.specs.Basics.{word}
-use Rattle.interface.specs.Places.{Cap, nothing, parentless, free, PD, EC, SC, PT, SM, kindWord, greatestOf, greatest}
+use Rattle.interface.specs.Places.{Cap, nothing, parentless, free, PD, EC, SC, SM, kindWord, greatest}
 use Rattle.interface.specs.Boot.{hypervisor, root, cpus, rootPd, rootEc, rootSc, rootObjects, exc, rootPriority, rootQuantum, noEc, bootRecord, bootObject, hypervisorCap, rootCap, bootCap}
 use Rattle.interface.proofs.Basics.BoolLaws.{cases, and-left, and-right}
 use Rattle.objects.specs.declared.Record.{Record}

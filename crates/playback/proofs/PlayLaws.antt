@@ -1,17 +1,15 @@
 -- The hypercall that a record's words and blocks make is the recorded one.
 use Prim.Native.Nat.{ℕ, _+_}
 use mathlib.Core.Path.{_≡_, sym, ap, _∙_}
-use mathlib.Core.Bool.{true, false}
 use mathlib.Core.List.{List, []}
-use lib.Dec.{eqb}
 use lib.ListN.{length}
-use borrow.Author.Tests.{eq-eqb, ne-eqb}
+use borrow.Author.Tests.{ne-eqb}
 use Rattle.words.specs.Sizes.{blockWords}
 use Rattle.descriptor.specs.declared.Reply.{Reply}
 use Rattle.interface.specs.Places.{Tables}
-use Rattle.interface.specs.Verdicts.{Call, CALL}
+use Rattle.interface.specs.Verdicts.{CALL}
 use Rattle.interface.specs.Journal.{bodyWord, recordedCall}
-use Rattle.interface.specs.Outcomes.{callOf, Outcome, outcome, Answered, answered}
+use Rattle.interface.specs.Outcomes.{callOf, outcome, answered}
 use Rattle.interface.proofs.Tables.TableLaws.{length-listed}
 use Rattle.interface.proofs.Tables.VerdictLaws.{answers}
 

@@ -6,7 +6,7 @@ ghost use mathlib.Core.List.{[], _∷_, _++_};
 ghost use lib.ListN.{length, take, drop};
 ghost use Rattle.interface.specs.Places.{tables};
 ghost use Rattle.interface.specs.Damage.{sound};
-ghost use Rattle.interface.specs.Outcomes.{Answered, answered};
+ghost use Rattle.interface.specs.Outcomes.{answered};
 ghost use Rattle.interface.specs.Journal.{recordedCall, ended, spelled, spelledLines};
 ghost use Rattle.journal.specs.Texts.{lineOf, lineBytes, Wrote};
 ghost use Rattle.playback.specs.Playing.{foundIn, stopOf, PlaysRecord, Plays, Stops, ReplayedAs};

@@ -2,7 +2,7 @@
 use Prim.Native.Nat.{ℕ, _<_}
 use mathlib.Core.Path.{_≡_, refl, sym, ap, subst, _∙_}
 use mathlib.Core.Logic.{_≢_}
-use mathlib.Core.Bool.{true, false, not, _&&_}
+use mathlib.Core.Bool.{true, false, not}
 use mathlib.Core.List.{List}
 use lib.Dec.{eqb}
 use lib.ListN.{length}
@@ -14,7 +14,7 @@ use Rattle.interface.specs.Basics.{word}
 use Rattle.interface.specs.Places.{Cap, State, PT, ecWord, domainWord, cpuWord, callBit, objectPlace, permitted, capAt, objectAt, placeTable, objectTable, tables, view, placesIn}
 use Rattle.interface.specs.Damage.{isEc}
 use Rattle.interface.specs.Effects.{run}
-use Rattle.interface.specs.Verdicts.{Call, Verdict, refuse, deliver, require_else_then_, blockOf}
+use Rattle.interface.specs.Verdicts.{Call, refuse, deliver, require_else_then_, blockOf}
 use Rattle.interface.specs.Message.{payloadFits, transfer, Moved}
 use Rattle.interface.specs.PortalCalls.{portalCall}
 use Rattle.interface.proofs.Sound.SoundFacts.{portal-ec, permitted-kind, ec-small, home, ec-home}

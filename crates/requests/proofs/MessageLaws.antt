@@ -7,7 +7,7 @@ use Rattle.descriptor.specs.declared.Reply.{Reply}
 use Rattle.interface.specs.Places.{tables}
 use Rattle.interface.specs.Boot.{rootEc, exc}
 use Rattle.interface.specs.Verdicts.{CALL, CREATE-PD}
-use Rattle.interface.specs.Outcomes.{callOf, Outcome, outcome, Answered, answered}
+use Rattle.interface.specs.Outcomes.{callOf, outcome, answered}
 use Rattle.interface.proofs.Tables.VerdictLaws.{answers}
 use Rattle.requests.specs.Requests.{Asked, itemBlock, windowBlock, withOneItem, withoutMessage}
 

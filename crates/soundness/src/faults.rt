@@ -3,7 +3,7 @@ ghost use mathlib.Core.Path.{_≡_};
 ghost use Prim.Native.Nat.{_<_, _≤_};
 ghost use lib.ListN.{length};
 ghost use Rattle.words.specs.Sizes.{places, records};
-ghost use Rattle.interface.specs.Places.{Tables, objectTableWords, placeTableWords, shown};
+ghost use Rattle.interface.specs.Places.{objectTableWords, placeTableWords, shown};
 ghost use Rattle.interface.specs.Damage.{live-place};
 ghost use Rattle.record_rules.specs.RecordKeeping.{recordsIn};
 ghost use Rattle.soundness.specs.RuleNumbers.{lowestFailing, firstRule, lastRule, ruleOf};

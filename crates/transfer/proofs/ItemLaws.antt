@@ -18,8 +18,7 @@ use Rattle.interface.specs.Places.{State, placesIn}
 use Rattle.interface.specs.Boot.{hypervisor, root}
 use Rattle.interface.specs.RangeDescriptors.{describe, reading, matched}
 use Rattle.interface.specs.Effects.{filled}
-use Rattle.interface.specs.Message.{receivedWord, delegateBit, hypervisorBit, hotspotField, Item, sourceDomain, smallerOrder, raisedBase, delegations, delegateItem, senderPlace, translatedBase, common, translates, translateItem}
-use Rattle.interface.proofs.Basics.BoolLaws.{cases}
+use Rattle.interface.specs.Message.{receivedWord, delegateBit, hypervisorBit, hotspotField, Item, sourceDomain, smallerOrder, raisedBase, delegations, delegateItem, translateItem}
 use Rattle.places.specs.Table.{Sized}
 use Rattle.windows.specs.Matching.{Matched, destinationOf}
 use Rattle.delegation.specs.Delegating.{Taken}

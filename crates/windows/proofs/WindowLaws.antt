@@ -14,8 +14,7 @@ use Rattle.descriptor.specs.declared.Match.the-variants.{Both}
 use Rattle.descriptor.specs.Descriptors.{kept, Proper}
 use Rattle.descriptor.proofs.DescriptorLaws.{reading-kept, matched-good, good-proper}
 use Rattle.interface.specs.RangeDescriptors.{reading, matched}
-use Rattle.interface.specs.Message.{smallerOrder, raisedBase}
-use Rattle.interface.specs.RangeDescriptors.{reading, matched}
+use Rattle.interface.specs.Message.{smallerOrder}
 use Rattle.windows.specs.Matching.{Matched, destinationOf}
 
 -- two descriptors that are read as they were kept

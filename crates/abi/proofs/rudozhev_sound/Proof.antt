@@ -1,5 +1,5 @@
 -- The answer is that of the damage test.
-use mathlib.Core.Path.{_≡_, sym, _∙_}
+use mathlib.Core.Path.{sym, _∙_}
 use borrow.Author.Needs.{needs}
 use Rattle.abi.proofs.rudozhev_sound.Statement.{statement}
 use Rattle.abi.proofs.rudozhev_sound.Tie as tie

@@ -1,5 +1,5 @@
 -- Who is not admitted is refused, and who is gets what the rule says.
-use mathlib.Core.Path.{_≡_, sym, _∙_}
+use mathlib.Core.Path.{sym, _∙_}
 use denote.Ref.{now}
 use borrow.Author.Needs.{needs}
 use Rattle.interface.specs.Verdicts.{Call}

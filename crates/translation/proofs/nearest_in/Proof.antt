@@ -1,6 +1,5 @@
 -- The nearest ancestor in a domain is the first among the domain's places.
 use mathlib.Core.Path.{sym, ap, _∙_}
-use native.Mathlib.Omega.{arith}
 use denote.Ref.{now}
 use borrow.Author.Needs.{needs}
 use Rattle.descriptor.specs.Numbers.{linked}

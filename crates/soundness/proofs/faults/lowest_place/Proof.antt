@@ -4,7 +4,7 @@ use mathlib.Core.Path.{_≡_}
 use mathlib.Core.Bool.{true}
 use borrow.Author.Needs.{needs}
 use Rattle.words.specs.Sizes.{places}
-use Rattle.interface.specs.Places.{Tables, shown}
+use Rattle.interface.specs.Places.{shown}
 use Rattle.interface.specs.Basics.{allBelow}
 use Rattle.interface.proofs.Basics.LoopLaws.{all-below-none, all-below-more}
 use Rattle.soundness.specs.RuleNumbers.{ruleOf}
