@@ -13,11 +13,10 @@ use Rattle.interface.specs.Places.{Cap, State, kindWord, parentless, greatestOf
 use Rattle.interface.specs.Effects.{make, hold, act, run}
 use Rattle.interface.specs.Verdicts.{refuse, grant}
 use Rattle.interface.proofs.Basics.PutLaws.{put-same}
+use Rattle.interface.proofs.Tables.TableLaws.{cap-table-back, record-table-back}
 use Rattle.interface.proofs.Tables.TurnLaws.{run-append}
 use Rattle.places.specs.Table.{Sized as SizedPlaces}
-use Rattle.places.proofs.CapTableLaws.{cap-table-back}
 use Rattle.objects.specs.Records.{Sized as SizedObjects, wordsOf}
-use Rattle.objects.proofs.RecordTableLaws.{record-table-back}
 use Rattle.creation_rule.specs.declared.Creation.{Creation}
 use Rattle.creation_rule.specs.declared.Checked.{Checked}
 use Rattle.creation_rule.specs.declared.Checked.the-variants.{Takes, Refused}

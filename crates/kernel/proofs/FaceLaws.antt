@@ -20,11 +20,12 @@ use Rattle.interface.proofs.History.DemandLaws.{goes-on, shows-heirs}
 use Rattle.interface.proofs.Sound.Soundness.{sound-facts}
 use Rattle.tree.specs.Walks.{Linked}
 use Rattle.tree.proofs.LinkLaws.{sound-linked}
+use Rattle.service.specs.Serving.{Serves}
 use Rattle.service.proofs.AdmissionLaws.{refused-outcome}
 
 -- damaged tables are refused
 pub damaged-outcome : (places objects : List ℕ) (c : Call) → sound (tables places objects) ≡ false →
-    record { reply = Damaged; tables = tables places objects; block = c .target } ≡ outcome (tables places objects) c
+    Serves c (tables places objects) (tables places objects) (c .target) Damaged
 damaged-outcome places objects c f = refused-outcome places objects c Damaged (judged-once (tables places objects) c ∙ (rw f)) (λ z. omega arith)
 
 -- the census of damaged tables, and that of sound ones

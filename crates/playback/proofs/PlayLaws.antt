@@ -9,9 +9,10 @@ use Rattle.descriptor.specs.declared.Reply.{Reply}
 use Rattle.interface.specs.Places.{Tables}
 use Rattle.interface.specs.Verdicts.{CALL}
 use Rattle.interface.specs.Journal.{bodyWord, recordedCall}
-use Rattle.interface.specs.Outcomes.{callOf, outcome, answered}
+use Rattle.interface.specs.Outcomes.{callOf, answered}
 use Rattle.interface.proofs.Tables.TableLaws.{length-listed}
 use Rattle.interface.proofs.Tables.VerdictLaws.{answers}
+use Rattle.service.specs.Serving.{Serves}
 
 -- a CALL's recorded blocks have their length
 pub source-length : (body source : List ℕ) → source ≡ recordedCall CALL body .source → blockWords ≡ length source
@@ -62,7 +63,7 @@ module _ {kind caller first second third fourth fifth sixth : ℕ} {body source 
   other-so other is-source is-target = read-so (rw (ne-eqb kind CALL other) is-source) (rw (ne-eqb kind CALL other) is-target)
 
   module _ (here : Tables) {after : Tables} {block : List ℕ} {reply : Reply}
-      (ran : record { reply = reply; tables = after; block = block } ≡ outcome here (callOf kind caller first second third fourth fifth sixth source target)) where
+      (ran : Serves (callOf kind caller first second third fourth fifth sixth source target) here after block reply) where
     plays : callOf kind caller first second third fourth fifth sixth source target ≡ recordedCall kind body →
         record { reply = reply; tables = after } ≡ answered here (recordedCall kind body)
     plays same = answers here after reply block (callOf kind caller first second third fourth fifth sixth source target) ran ∙ ap (answered here) same

@@ -18,18 +18,19 @@ use Rattle.descriptor.proofs.DescriptorLaws.{numbered-so, numbered-inside}
 use Rattle.interface.specs.Places.{State, Tables, sized, tablesOf, EC, kindWord, objectAt, objectTableWords, tables, view}
 use Rattle.interface.specs.Damage.{sound, isEc}
 use Rattle.interface.specs.Effects.{run}
-use Rattle.interface.specs.Verdicts.{Call, Verdict, refuse, replyOf, effectsOf, blockOf}
+use Rattle.interface.specs.Verdicts.{Call, Verdict, CALL, refuse, replyOf, effectsOf, blockOf}
 use Rattle.interface.specs.Rules.{Built, rule, not-built, hypercall, called, judged, after, rules, hypercallReply, hypercallTables, Runs}
 use Rattle.interface.specs.Outcomes.{Outcome, outcome}
 use Rattle.interface.specs.Demand.{tablesAfter}
 use Rattle.interface.proofs.Basics.BoolLaws.{cases}
 use Rattle.interface.proofs.Tables.TableLaws.{objects-long, sound-sized}
-use Rattle.interface.proofs.Consequences.ConsequenceLaws.{judged-once, refused-stays, stays-sound}
+use Rattle.interface.proofs.Consequences.ConsequenceLaws.{judged-once, refused-stays, blocks-stay, stays-sound}
 use Rattle.interface.specs.History.{hypercalls}
 use Rattle.capabilities.specs.Callers.{Called}
 use Rattle.service.specs.declared.Admitted.{Admitted}
 use Rattle.service.specs.declared.Admitted.the-variants.{Ec, Refused}
 use Rattle.service.specs.Admission.{isBuilt, admission}
+use Rattle.service.specs.Serving.{Serves}
 
 -- a caller that is an object number is below the number of records
 pub numbered-small : (caller : ℕ) (number : ObjectNumber) → numbered caller ≡ Numbered number → number .0 < records
@@ -116,7 +117,7 @@ module _ (places objects : List ℕ) (c : Call) where
 
   -- a refusal leaves the tables and the block
   pub refused-outcome : (reply : Reply) → judged (tables places objects) c ≡ refuse reply → (statusOf reply ≡ 0 → ⊥) →
-      record { reply = reply; tables = tables places objects; block = c .target } ≡ outcome (tables places objects) c
+      Serves c (tables places objects) (tables places objects) (c .target) reply
   refused-outcome reply e n =
       let is-reply : hypercallReply (tables places objects) c ≡ reply = ap replyOf e in
       let (tables-stay, block-stays) = refused-stays .hypercall-stays (tables places objects) c (λ z. n (ap statusOf (sym is-reply) ∙ z)) in
@@ -124,7 +125,7 @@ module _ (places objects : List ℕ) (c : Call) where
 
   -- a number that is not built
   pub unbuilt-outcome : sound (tables places objects) ≡ true → hypercall (c .number) ≡ not-built →
-      record { reply = BadHyp; tables = tables places objects; block = c .target } ≡ outcome (tables places objects) c
+      Serves c (tables places objects) (tables places objects) (c .target) BadHyp
   unfolding called
   unbuilt-outcome t e = refused-outcome BadHyp (judged-once (tables places objects) c ∙ (rw (t, e))) (λ z. omega arith)
 
@@ -134,21 +135,33 @@ module _ (places objects : List ℕ) (c : Call) where
     unfolding called
     judged-called = judged-once (tables places objects) c ∙ (rw (k .is-sound, is-rule, k .is-ec))
 
+    -- sound tables have their lengths, so that the rules are asked
+    fit : sized (tables places objects) ≡ true
+    fit = sound-sized (tables places objects) (k .is-sound)
+
+    rules-so : rules s c ≡ verdict s c
+    unfolding judged
+    rules-so = rw fit at judged-called
+
     tables-so : hypercallTables (tables places objects) c ≡ tablesOf (run (effectsOf (verdict s c)) s)
-    unfolding hypercallTables after judged
-    tables-so =
-        let fit : sized (tables places objects) ≡ true = sound-sized (tables places objects) (k .is-sound) in
-        let is-verdict : rules s c ≡ verdict s c = rw fit at judged-called in
-        rw (fit, is-verdict)
+    unfolding hypercallTables after
+    tables-so = rw (fit, rules-so)
 
     pub ran-outcome : (placesAfter objectsAfter block : List ℕ) (reply : Reply) →
         Runs verdict c (tables places objects) (tables placesAfter objectsAfter) reply → block ≡ blockOf (c .target) (verdict s c) →
-        record { reply = reply; tables = tables placesAfter objectsAfter; block = block } ≡ outcome (tables places objects) c
+        Serves c (tables places objects) (tables placesAfter objectsAfter) block reply
     ran-outcome placesAfter objectsAfter block reply runs is-block =
         let is-reply = runs .replies ∙ ap replyOf (sym judged-called) in
         let is-tables = runs .leaves ∙ sym tables-so in
         let same-block = is-block ∙ ap (blockOf (c .target)) (sym judged-called) in
         λ i. record { reply = is-reply i; tables = is-tables i; block = same-block i }
+
+    -- and where it is no CALL the block stays
+    pub kept-outcome : (c .number ≡ CALL → ⊥) → (placesAfter objectsAfter : List ℕ) (reply : Reply) →
+        Runs verdict c (tables places objects) (tables placesAfter objectsAfter) reply →
+        Serves c (tables places objects) (tables placesAfter objectsAfter) (c .target) reply
+    kept-outcome other placesAfter objectsAfter reply runs =
+        ran-outcome placesAfter objectsAfter (c .target) reply runs (sym (blocks-stay s c other) ∙ ap (blockOf (c .target)) rules-so)
 
 -- who is not admitted on sound tables is refused
 module _ (places objects : List ℕ) (t : sound (tables places objects) ≡ true) (c : Call) (reply : Reply)
@@ -156,8 +169,7 @@ module _ (places objects : List ℕ) (t : sound (tables places objects) ≡ true
   refused-same : (other : Reply) → admission places objects (c .number) (c .caller) ≡ Refused other → other ≡ reply
   refused-same other f = cc
 
-  by-rule : (built : Built) → hypercall (c .number) ≡ built →
-      record { reply = reply; tables = tables places objects; block = c .target } ≡ outcome (tables places objects) c
+  by-rule : (built : Built) → hypercall (c .number) ≡ built → Serves c (tables places objects) (tables places objects) (c .target) reply
   unfolding called
   by-rule not-built is-built =
       rw (sym (refused-same BadHyp (admission-not-built places objects (c .number) (c .caller) (rw is-built)))) (unbuilt-outcome places objects c t is-built)
@@ -169,7 +181,7 @@ module _ (places objects : List ℕ) (t : sound (tables places objects) ≡ true
       rw (sym (refused-same BadCaller (admission-no-ec places objects (c .number) (c .caller) (rw is-built) f)))
       (refused-outcome places objects c BadCaller (judged-once (tables places objects) c ∙ (rw (t, is-built, f))) (λ z. omega arith)))
 
-  pub not-admitted : record { reply = reply; tables = tables places objects; block = c .target } ≡ outcome (tables places objects) c
+  pub not-admitted : Serves c (tables places objects) (tables places objects) (c .target) reply
   not-admitted = by-rule (hypercall (c .number)) refl
 
 -- sound tables have their lengths

@@ -1,19 +1,18 @@
--- The rules by their numbers: which rule a number has, and that every rule but CALL's gives the callee's block back as it was.
+-- The rules by their numbers: which rule a number has; and that LOOKUP leaves the tables.
 use Prim.Native.Nat.{ℕ, suc, _≤_}
-use mathlib.Core.Path.{_≡_, refl, sym, _∙_}
-use mathlib.Core.Bool.{Bool, true, false, true≢false, _&&_, _||_}
+use mathlib.Core.Path.{_≡_, sym, _∙_}
+use mathlib.Core.Bool.{true, false, true≢false, _&&_, _||_}
 use mathlib.Core.List.{List, []}
 use lib.Dec.{eqb, leb}
 use native.Mathlib.Omega.{arith}
 use borrow.Author.Tests.{eqb-true, eqb-false, ne-eqb, leb-true, le-leb}
 use Rattle.descriptor.specs.declared.Reply.{Reply}
-use Rattle.interface.specs.Basics.{if_then_else_}
 use Rattle.interface.specs.Places.{State, tables, view}
 use Rattle.interface.specs.RangeDescriptors.{reading, malformed}
-use Rattle.interface.specs.Effects.{Effect, run}
-use Rattle.interface.specs.Verdicts.{Call, Verdict, refuse, grant, replyOf, effectsOf, blockOf}
+use Rattle.interface.specs.Effects.{run}
+use Rattle.interface.specs.Verdicts.{Call, replyOf, effectsOf}
 use Rattle.interface.specs.Verdicts.{CALL, CREATE-PD, CREATE-EC, CREATE-SC, CREATE-PT, CREATE-SM, REVOKE, LOOKUP, SM-CTRL}
-use Rattle.interface.specs.Creations.{creation, createPd, createEc, createSc, createPt, createSm}
+use Rattle.interface.specs.Creations.{createPd, createEc, createSc, createPt, createSm}
 use Rattle.interface.specs.Revoke.{revoke}
 use Rattle.interface.specs.Lookup.{lookup}
 use Rattle.interface.specs.Semaphores.{smCtrl}
@@ -127,55 +126,6 @@ module _ (number : ℕ) where
       (built-none (eqb-false number CALL not-call)
       (λ low high. true≢false (sym (both (leb CREATE-PD number) (leb number LOOKUP) (le-leb CREATE-PD number low) (le-leb number LOOKUP high)) ∙ outside))
       (eqb-false number SM-CTRL f))))))
-
--- a verdict that gives a block back as it was
-pub record Stays (block : List ℕ) (verdict : Verdict) : Type 0 where
-  pub stays : block ≡ blockOf block verdict
-
-stays-refused : (block : List ℕ) (reply : Reply) → Stays block (refuse reply)
-stays-refused block reply = record { stays = refl }
-
-stays-granted : (block : List ℕ) (answer : ℕ) (effects : List Effect) → Stays block (grant answer effects)
-stays-granted block answer effects = record { stays = refl }
-
-stays-choice : (block : List ℕ) (test : Bool) (x y : Verdict) → Stays block x → Stays block y → Stays block (if test then x else y)
-stays-choice block true x y h k = h
-stays-choice block false x y h k = k
-
-ruleset staying = (stays-choice, stays-granted, stays-refused)
-
-module _ (s : State) (c : Call) where
-  pub create-pd-stays : Stays (c .target) (createPd s c)
-  unfolding createPd creation
-  create-pd-stays = search staying depth 20
-
-  pub create-ec-stays : Stays (c .target) (createEc s c)
-  unfolding createEc creation
-  create-ec-stays = search staying depth 20
-
-  pub create-sc-stays : Stays (c .target) (createSc s c)
-  unfolding createSc creation
-  create-sc-stays = search staying depth 20
-
-  pub create-pt-stays : Stays (c .target) (createPt s c)
-  unfolding createPt creation
-  create-pt-stays = search staying depth 20
-
-  pub create-sm-stays : Stays (c .target) (createSm s c)
-  unfolding createSm creation
-  create-sm-stays = search staying depth 20
-
-  pub revoke-stays : Stays (c .target) (revoke s c)
-  unfolding revoke
-  revoke-stays = search staying depth 20
-
-  pub lookup-stays : Stays (c .target) (lookup s c)
-  unfolding lookup
-  lookup-stays = search staying depth 20
-
-  pub sm-ctrl-stays : Stays (c .target) (smCtrl s c)
-  unfolding smCtrl
-  sm-ctrl-stays = search staying depth 20
 
 -- LOOKUP takes no steps
 lookup-steps : (s : State) (c : Call) → effectsOf (lookup s c) ≡ []

@@ -1,2 +1,3 @@
 -- What the functions promise.
 pub mod Admission
+pub mod Serving

@@ -3,9 +3,9 @@ ghost use mathlib.Core.Path.{_≡_};
 ghost use mathlib.Core.Bool.{true};
 ghost use Rattle.interface.specs.Places.{tables};
 ghost use Rattle.interface.specs.Damage.{sound};
-ghost use Rattle.interface.specs.Outcomes.{outcome};
 ghost use Rattle.capabilities.specs.Callers.{Called};
-ghost use Rattle.service.specs.Admission.{isBuilt, admission, callWith};
+ghost use Rattle.service.specs.Admission.{isBuilt, admission};
+ghost use Rattle.service.specs.Serving.{callWith, Serves};
 use descriptor::FoundObject;
 use descriptor::ObjectNumber;
 use descriptor::Reply;
@@ -65,8 +65,8 @@ fn dispatch(
 ) -> Reply
     requires { ⌜ Called (now places) (now objects) (caller .0) ⌝ }
     ensures { λ r. ⌜
-        record { reply = r; tables = tables (now (places .exit)) (now (objects .exit)); block = now (target .exit) } ≡
-        outcome (tables (now (places .entry)) (now (objects .entry))) (callWith number (caller .0) words (now (source .entry)) (now (target .entry))) ⌝ }
+        Serves (callWith number (caller .0) words (now (source .entry)) (now (target .entry))) (tables (now (places .entry)) (now (objects .entry)))
+        (tables (now (places .exit)) (now (objects .exit))) (now (target .exit)) r ⌝ }
 {
     match number {
         numbers::CALL => portals::call(caller, words.first, places, objects, source, target),
@@ -134,8 +134,8 @@ pub fn serve(
 ) -> Reply
     requires { ⌜ sound (tables (now places) (now objects)) ≡ true ⌝ }
     ensures { λ r. ⌜
-        record { reply = r; tables = tables (now (places .exit)) (now (objects .exit)); block = now (target .exit) } ≡
-        outcome (tables (now (places .entry)) (now (objects .entry))) (callWith number caller words (now (source .entry)) (now (target .entry))) ⌝ }
+        Serves (callWith number caller words (now (source .entry)) (now (target .entry))) (tables (now (places .entry)) (now (objects .entry)))
+        (tables (now (places .exit)) (now (objects .exit))) (now (target .exit)) r ⌝ }
     ensures { λ r. ⌜ sound (tables (now (places .exit)) (now (objects .exit))) ≡ true ⌝ }
 {
     let admitted = admit(number, caller, places, objects);

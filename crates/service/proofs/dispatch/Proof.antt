@@ -1,6 +1,7 @@
 -- Each number's call comes to what its rule says, and any other number is refused.
 use mathlib.Core.Path.{refl}
 use denote.Ref.{now}
+use native.Mathlib.Omega.{arith}
 use borrow.Author.Needs.{needs}
 use Rattle.interface.specs.Verdicts.{Call}
 use Rattle.interface.specs.PortalCalls.{portalCall}
@@ -8,10 +9,9 @@ use Rattle.interface.specs.Creations.{createPd, createEc, createSc, createPt, c
 use Rattle.interface.specs.Revoke.{revoke}
 use Rattle.interface.specs.Lookup.{lookup}
 use Rattle.interface.specs.Semaphores.{smCtrl}
-use Rattle.service.specs.Admission.{callWith}
-use Rattle.service.proofs.AdmissionLaws.{unbuilt-outcome, ran-outcome}
-use Rattle.service.proofs.RuleLaws.{is-call, is-create-pd, is-create-ec, is-create-sc, is-create-pt, is-create-sm, is-revoke, is-lookup, is-sm-ctrl, is-not-built}
-use Rattle.service.proofs.RuleLaws.{create-pd-stays, create-ec-stays, create-sc-stays, create-pt-stays, create-sm-stays, revoke-stays, lookup-stays, sm-ctrl-stays, lookup-runs}
+use Rattle.service.specs.Serving.{callWith}
+use Rattle.service.proofs.AdmissionLaws.{unbuilt-outcome, ran-outcome, kept-outcome}
+use Rattle.service.proofs.RuleLaws.{is-call, is-create-pd, is-create-ec, is-create-sc, is-create-pt, is-create-sm, is-revoke, is-lookup, is-sm-ctrl, is-not-built, lookup-runs}
 use Rattle.service.proofs.dispatch.Statement.{statement}
 use Rattle.service.proofs.dispatch.Tie as tie
 
@@ -72,8 +72,8 @@ returns-2 : tie.Need-returns-2
 returns-2 c =
     let start = c .before .before .before .before .before .before .before .before .before .before .before .before in
     let call = callBy start in
-    ran-outcome _ _ call createPd (is-create-pd _ (search needs)) (start .pre) _ _ _ _
-    (c .before .before .before .before .create-pd .ensures call refl refl refl refl) (create-pd-stays _ call .stays)
+    kept-outcome _ _ call createPd (is-create-pd _ (search needs)) (start .pre) (λ z. omega arith) _ _ _
+    (c .before .before .before .before .create-pd .ensures call refl refl refl refl)
 
 same-length-6 : tie.Need-same-length-6
 same-length-6 c = search needs
@@ -85,8 +85,8 @@ returns-3 : tie.Need-returns-3
 returns-3 c =
     let start = c .before .before .before .before .before .before .before .before .before .before .before .before in
     let call = callBy start in
-    ran-outcome _ _ call createEc (is-create-ec _ (search needs)) (start .pre) _ _ _ _
-    (c .before .before .before .before .create-ec .ensures call refl refl refl refl refl) (create-ec-stays _ call .stays)
+    kept-outcome _ _ call createEc (is-create-ec _ (search needs)) (start .pre) (λ z. omega arith) _ _ _
+    (c .before .before .before .before .create-ec .ensures call refl refl refl refl refl)
 
 same-length-8 : tie.Need-same-length-8
 same-length-8 c = search needs
@@ -98,8 +98,8 @@ returns-4 : tie.Need-returns-4
 returns-4 c =
     let start = c .before .before .before .before .before .before .before .before .before .before .before .before in
     let call = callBy start in
-    ran-outcome _ _ call createSc (is-create-sc _ (search needs)) (start .pre) _ _ _ _
-    (c .before .before .before .before .create-sc .ensures call refl refl refl refl refl) (create-sc-stays _ call .stays)
+    kept-outcome _ _ call createSc (is-create-sc _ (search needs)) (start .pre) (λ z. omega arith) _ _ _
+    (c .before .before .before .before .create-sc .ensures call refl refl refl refl refl)
 
 same-length-10 : tie.Need-same-length-10
 same-length-10 c = search needs
@@ -111,8 +111,8 @@ returns-5 : tie.Need-returns-5
 returns-5 c =
     let start = c .before .before .before .before .before .before .before .before .before .before .before .before in
     let call = callBy start in
-    ran-outcome _ _ call createPt (is-create-pt _ (search needs)) (start .pre) _ _ _ _
-    (c .before .before .before .before .create-pt .ensures call refl refl refl refl refl refl refl) (create-pt-stays _ call .stays)
+    kept-outcome _ _ call createPt (is-create-pt _ (search needs)) (start .pre) (λ z. omega arith) _ _ _
+    (c .before .before .before .before .create-pt .ensures call refl refl refl refl refl refl refl)
 
 same-length-12 : tie.Need-same-length-12
 same-length-12 c = search needs
@@ -124,8 +124,8 @@ returns-6 : tie.Need-returns-6
 returns-6 c =
     let start = c .before .before .before .before .before .before .before .before .before .before .before .before in
     let call = callBy start in
-    ran-outcome _ _ call createSm (is-create-sm _ (search needs)) (start .pre) _ _ _ _
-    (c .before .before .before .before .create-sm .ensures call refl refl refl refl) (create-sm-stays _ call .stays)
+    kept-outcome _ _ call createSm (is-create-sm _ (search needs)) (start .pre) (λ z. omega arith) _ _ _
+    (c .before .before .before .before .create-sm .ensures call refl refl refl refl)
 
 same-length-14 : tie.Need-same-length-14
 same-length-14 c = search needs
@@ -137,8 +137,8 @@ returns-7 : tie.Need-returns-7
 returns-7 c =
     let start = c .before .before .before .before .before .before .before .before .before .before in
     let call = callBy start in
-    ran-outcome _ _ call revoke (is-revoke _ (search needs)) (start .pre) _ _ _ _
-    (c .before .before .revoke .ensures call refl refl refl) (revoke-stays _ call .stays)
+    kept-outcome _ _ call revoke (is-revoke _ (search needs)) (start .pre) (λ z. omega arith) _ _ _
+    (c .before .before .revoke .ensures call refl refl refl)
 
 same-length-16 : tie.Need-same-length-16
 same-length-16 c = search needs
@@ -151,7 +151,7 @@ returns-8 c =
     let start = c .before .before .before .before .before .before .before .before in
     let call = callBy start in
     let runs = lookup-runs _ _ _ call _ (start .pre) (c .look-up .ensures call refl refl) in
-    ran-outcome _ _ call lookup (is-lookup _ (search needs)) (start .pre) _ _ _ _ runs (lookup-stays _ call .stays)
+    kept-outcome _ _ call lookup (is-lookup _ (search needs)) (start .pre) (λ z. omega arith) _ _ _ runs
 
 same-length-18 : tie.Need-same-length-18
 same-length-18 c = search needs
@@ -163,8 +163,8 @@ returns-9 : tie.Need-returns-9
 returns-9 c =
     let start = c .before .before .before .before .before .before .before .before .before .before in
     let call = callBy start in
-    ran-outcome _ _ call smCtrl (is-sm-ctrl _ (search needs)) (start .pre) _ _ _ _
-    (c .before .before .sm-ctrl .ensures call refl refl refl) (sm-ctrl-stays _ call .stays)
+    kept-outcome _ _ call smCtrl (is-sm-ctrl _ (search needs)) (start .pre) (λ z. omega arith) _ _ _
+    (c .before .before .sm-ctrl .ensures call refl refl refl)
 
 returns-10 : tie.Need-returns-10
 returns-10 c =

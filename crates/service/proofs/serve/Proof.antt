@@ -3,7 +3,7 @@ use mathlib.Core.Path.{sym, _∙_}
 use denote.Ref.{now}
 use borrow.Author.Needs.{needs}
 use Rattle.interface.specs.Verdicts.{Call}
-use Rattle.service.specs.Admission.{callWith}
+use Rattle.service.specs.Serving.{callWith}
 use Rattle.service.proofs.AdmissionLaws.{served, not-admitted, admitted-caller, admitted-ec}
 use Rattle.service.proofs.serve.Statement.{statement}
 use Rattle.service.proofs.serve.Tie as tie
