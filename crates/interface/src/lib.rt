@@ -11,6 +11,7 @@ ghost use Rattle.interface.specs.Examples.{WorkedExamples, MessageExampl
 ghost use Rattle.interface.specs.SmallCases.{SmallCases};
 ghost use Rattle.interface.specs.Journal.{PartsInTurn, PiecesInTurn};
 
+pub mod block;
 pub mod numbers;
 
 // Demand 3: after any events from boot, the census of a live place shows exactly its heirs, and revoking everything below it empties just those.

@@ -13,6 +13,7 @@ use descriptor::Descriptor;
 use descriptor::FoundSelector;
 use descriptor::Reply;
 use descriptor::Selector;
+use interface::block::DELEGATE_WINDOW;
 use interface::numbers;
 use words::sizes;
 
@@ -27,8 +28,6 @@ const FULL_MASK: u32 = 31;
 
 // The words of a message block that a message of one typed item has.
 const COUNTS: usize = 0;
-
-const DELEGATE_WINDOW: usize = 2;
 
 const ITEM_SECOND: usize = sizes::BLOCK_WORDS - 2;
 

@@ -19,12 +19,8 @@ use descriptor::Descriptor;
 use descriptor::Match;
 use descriptor::Range;
 use descriptor::Received;
+use interface::block;
 use words::sizes;
-
-// Where in a block the receiver has its windows.
-const TRANSLATE_WINDOW: usize = 1;
-
-const DELEGATE_WINDOW: usize = 2;
 
 const ITEM_WORDS: usize = 2;
 
@@ -184,8 +180,8 @@ pub fn message(
         (transfer (placesIn (now (table .entry))) sender receiver (now (source .entry)) (now (target .entry))) r ⌝ }
 {
     let word0 = source[0];
-    let translating = target[TRANSLATE_WINDOW];
-    let delegating = target[DELEGATE_WINDOW];
+    let translating = target[block::TRANSLATE_WINDOW];
+    let delegating = target[block::DELEGATE_WINDOW];
     blocks::copy_untyped(source, target);
     let above = blocks::HEAD_WORDS + (blocks::untyped_count(word0) as usize);
     let typed = blocks::typed_count(word0) as usize;
