@@ -12,14 +12,14 @@ use Rattle.descriptor.specs.Replies.{statusOf}
 use Rattle.descriptor.specs.declared.Range.{Range}
 use Rattle.descriptor.specs.declared.Reading.{Reading}
 use Rattle.descriptor.specs.declared.Reading.the-variants.{Null, Malformed, Good}
-use Rattle.descriptor.specs.declared.Reply.the-variants.{Damaged}
+use Rattle.descriptor.specs.declared.Reply.the-variants.{Success, Damaged}
 use Rattle.interface.specs.Basics.{if_then_else_, word}
 use Rattle.interface.specs.Places.{Cap, State, Tables, live, parentless, free, PD, EC, SC, PT, SM, domainWord, ecWord, kindOf, greatestOf, objectPlace, objectIn}
 use Rattle.interface.specs.Boot.{hypervisor, root}
 use Rattle.interface.specs.Damage.{sound}
 use Rattle.interface.specs.RangeDescriptors.{describe, reading}
 use Rattle.interface.specs.Effects.{Effect, give, among, below, stripped}
-use Rattle.interface.specs.Verdicts.{Call, CALL, CREATE-PD, REVOKE, LOOKUP, callerDomain, grant, effectsOf, blockOf}
+use Rattle.interface.specs.Verdicts.{Call, CALL, CREATE-PD, REVOKE, LOOKUP, callerDomain, replyOf, effectsOf, blockOf}
 use Rattle.interface.specs.Creations.{newPlace, freeRecord, nextDomain}
 use Rattle.interface.specs.Lookup.{spaceCaps}
 use Rattle.interface.specs.Message.{delegateWindow, typedCount, descriptorAt, secondAt, delegateBit, hypervisorBit}
@@ -71,7 +71,7 @@ pub record LargestOrder (s : State) (domain : ℕ) (range : Range) (order : ℕ)
 -- A selector that holds nothing is reported as nothing: a LOOKUP that is not refused answers 0 exactly when its descriptor names nothing, and otherwise the largest range
 abbrev pub NothingIsNothing : Type 0
 NothingIsNothing =
-    (s : State) (c : Call) (answer : ℕ) (effects : List Effect) → c .number ≡ LOOKUP → rules s c ≡ grant answer effects →
+    (s : State) (c : Call) (answer : ℕ) → c .number ≡ LOOKUP → replyOf (rules s c) ≡ Success answer →
     ((answer ≡ 0) ↔ (namesNothing s (callerDomain s c) (reading (c .first)) ≡ true)) ×
     ((range : Range) → reading (c .first) ≡ Good range → namesNothing s (callerDomain s c) (Good range) ≡ false →
     (order : ℕ) × LargestOrder s (callerDomain s c) range order ×
@@ -174,7 +174,7 @@ pub record AddsNoPermission : Type 0 where
 -- with self 1, and its old ones otherwise; nothing else of it moves, except that a place left with none is null; and no object moves
 abbrev pub RevokesExactly : Type 0
 RevokesExactly =
-    (s : State) (c : Call) (answer : ℕ) (effects : List Effect) → c .number ≡ REVOKE → rules s c ≡ grant answer effects →
+    (s : State) (c : Call) (answer : ℕ) → c .number ≡ REVOKE → replyOf (rules s c) ≡ Success answer →
     (after s c .objects ≡ s .objects) ×
     (reading (c .first) ≡ Null → after s c ≡ s) ×
     ((range : Range) → reading (c .first) ≡ Good range → (place : ℕ) →

@@ -1,6 +1,6 @@
 -- A selector that holds nothing is reported as nothing: what LOOKUP answers, and that the order of its range is the largest.
 use Prim.Native.Nat.{ℕ, zero, suc, _+_, _^_, _≤_, _<_}
-use mathlib.Core.Path.{_≡_, refl, sym, _∙_}
+use mathlib.Core.Path.{_≡_, refl, sym, ap, _∙_}
 use mathlib.Core.Bool.{Bool, true, false, not, _&&_, true≢false}
 use mathlib.Core.Logic.{_↔_}
 use mathlib.Core.List.{[]}
@@ -15,13 +15,13 @@ use Rattle.descriptor.specs.declared.Reading.the-variants.{Null, Malformed, Goo
 use Rattle.descriptor.specs.declared.Reply.the-variants.{BadPar}
 use Rattle.interface.specs.Places.{Cap, State, live}
 use Rattle.interface.specs.RangeDescriptors.{reading, malformed}
-use Rattle.interface.specs.Verdicts.{grant, callerDomain}
+use Rattle.interface.specs.Verdicts.{grant, callerDomain, replyOf}
 use Rattle.interface.specs.Lookup.{uniform, largest, around, spaceCaps, found, lookup}
 use Rattle.interface.specs.Rules.{hypercall}
 use Rattle.interface.specs.Consequences.{namesNothing, Even, LargestOrder, NothingIsNothing}
 use Rattle.interface.proofs.Basics.BoolLaws.{cases, not-both, and-left, and-right}
 use Rattle.interface.proofs.Basics.BelowLaws.{below-suc, all-below-at, all-below}
-use Rattle.interface.proofs.Tables.VerdictLaws.{required, rule-grants}
+use Rattle.interface.proofs.Tables.VerdictLaws.{required, succeeds, success-same, rule-succeeds}
 
 module _ (caps : ℕ → Cap) (selector : ℕ) where
   -- what a uniform range of an order tells of each of its places
@@ -120,14 +120,15 @@ found-nothing s domain (Good range) m =
 -- LOOKUP answers what is found
 pub nothing-is-nothing : NothingIsNothing
 unfolding hypercall lookup found around
-nothing-is-nothing s c answer effects n h =
+nothing-is-nothing s c answer n h =
     let domain = callerDomain s c in
     let read = reading (c .first) in
-    let given = grant answer effects in
-    let by-rule = rule-grants given refl s c h lookup (rw n) in
-    let granted = required given refl (not (malformed read)) BadPar (grant (found s domain read) []) by-rule in
-    let is : answer ≡ found s domain read = cc (granted .1) in (
-      rw is (found-nothing s domain read (not-true (malformed read) (granted .0))),
+    let last = grant (found s domain read) [] in
+    let by-rule = rule-succeeds s c answer lookup (rw n) h in
+    let behind = succeeds (not (malformed read)) BadPar last answer (λ z. omega arith) (ap replyOf (sym by-rule) ∙ h) in
+    let well-formed = required last refl (not (malformed read)) BadPar last behind .0 in
+    let is : answer ≡ found s domain read = success-same (sym h ∙ ap replyOf (by-rule ∙ behind)) in (
+      rw is (found-nothing s domain read (not-true (malformed read) well-formed)),
       (λ range e f.
           let alive = not-false (live (spaceCaps s domain (range .space) (range .base))) f in
           (order-found s domain range, found-largest s domain range alive, is ∙ rw (e, alive))),

@@ -36,7 +36,7 @@ use Rattle.interface.proofs.Sound.Soundness.{sound-facts, facts-sound}
 use Rattle.interface.proofs.History.Sequences.{run-sound}
 use Rattle.interface.proofs.Sound.SoundFacts.{home, ec-home}
 use Rattle.interface.proofs.Sound.MessageFits.{message-fits}
-use Rattle.interface.proofs.Tables.VerdictLaws.{required, rule-grants, rule-checked, after-verdict, rule-succeeds}
+use Rattle.interface.proofs.Tables.VerdictLaws.{required, rule-grants, rule-checked, after-verdict, success-same, rule-succeeds}
 use Rattle.interface.proofs.Tables.TurnLaws.{run-append, filled-append, give-others}
 use Rattle.interface.proofs.Tables.TableLaws.{length-listed, take-listed}
 use Rattle.interface.proofs.History.NoteLaws.{fills-leaves}
@@ -388,9 +388,6 @@ call-delivers s c answer n h =
     (deliver (moved .filled) (moved .effects) (moved .block)) answer (ap replyOf (sym by-rule) ∙ h) in
     let same : moved .filled ≡ answer = success-same (ap replyOf (sym delivers) ∙ h) in
     (moved .effects, moved .block, delivers ∙ ap (λ (count : ℕ). deliver count (moved .effects) (moved .block)) same)
-  where
-    success-same : {a b : ℕ} → Success a ≡ Success b → a ≡ b
-    success-same e = cc
 
 pub delivers-items : DeliversItems
 unfolding carried run

@@ -48,6 +48,10 @@ pub succeeds : (test : Bool) (reply : Reply) (next : Verdict) (answer : ℕ) →
 succeeds true reply next answer n h = refl
 succeeds false reply next answer n h = absurd (n (ap statusOf h))
 
+-- two replies of SUCCESS that are equal have equal answers
+pub success-same : {a b : ℕ} → Success a ≡ Success b → a ≡ b
+success-same e = cc
+
 -- a call that succeeds has the verdict of its number's rule
 pub rule-succeeds : (s : State) (c : Call) (answer : ℕ) (verdict : State → Call → Verdict) → hypercall (c .number) ≡ rule verdict →
     replyOf (rules s c) ≡ Success answer → rules s c ≡ verdict s c
