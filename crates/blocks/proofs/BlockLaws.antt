@@ -7,8 +7,8 @@ use native.Mathlib.Nat.{add-sub-cancel-left}
 use native.Mathlib.Numerals.{add-one}
 use native.Mathlib.Omega.{arith}
 use lib.Dec.{eqb, leb}
-use lib.ListN.{length, take, drop, set, length-set, length-drop}
-use lib.Seq.{getD-drop, paste, paste-suc, length-paste}
+use lib.ListN.{length, take, drop, set, length-drop}
+use lib.Seq.{getD-drop, paste, paste-suc}
 use borrow.Author.Tests.{eq-eqb, ne-eqb, leb-true, not-true, not-false}
 use Rattle.words.specs.Sizes.{blockWords}
 use Rattle.interface.specs.Basics.{word}
@@ -55,14 +55,3 @@ pub is-copied : {block : List ℕ} (source target : List ℕ) (untyped : ℕ) �
     block ≡ paste (set target 0 (word source 0)) headWords (drop headWords source) untyped → block ≡ untypedCopied source target
 unfolding untypedCopied
 is-copied source target untyped u e = rw u at e
-
--- they leave the length
-pub copied-length : (source target : List ℕ) → length source ≡ blockWords → length target ≡ blockWords → headWords + untypedCount (word source 0) ≤ blockWords →
-    length (untypedCopied source target) ≡ blockWords
-unfolding untypedCopied
-copied-length source target s t l =
-    let block = set target 0 (word source 0) in
-    let u = untypedCount (word source 0) in
-    let there : headWords + u ≤ length block = simp length-set (omega arith) in
-    let here : u ≤ length (drop headWords source) = simp length-drop (omega arith) in
-    length-paste block headWords (drop headWords source) u there here ∙ simp length-set t

@@ -3,7 +3,7 @@ use Prim.Native.Nat.{ℕ, _+_, _-_, _≤_, _<_}
 use mathlib.Core.Path.{_≡_, ap, _∙_}
 use mathlib.Core.Bool.{Bool, true, false, _&&_}
 use mathlib.Core.List.{[], _∷_}
-use lib.Dec.{leb, ltb}
+use lib.Dec.{eqb, leb, ltb}
 use borrow.Author.Tests.{lt-ltb, le-ltb, eq-eqb, ne-eqb, leb-true, ltb-true}
 use native.Mathlib.Omega.{arith}
 use Rattle.words.specs.Sizes.{object, records, domainOf, spaceOf, selectorOf}
@@ -12,7 +12,7 @@ use Rattle.descriptor.specs.declared.FoundObject.{FoundObject}
 use Rattle.descriptor.specs.declared.FoundObject.the-variants.{Numbered, Beyond}
 use Rattle.descriptor.specs.Numbers.{numbered}
 use Rattle.descriptor.proofs.DescriptorLaws.{numbered-so}
-use Rattle.interface.specs.Basics.{word}
+use Rattle.interface.specs.Basics.{if_then_else_, word}
 use Rattle.interface.specs.Places.{Cap, nothing, parentless, free, PD, EC, SC, SM, kindWord, greatest}
 use Rattle.interface.specs.Boot.{hypervisor, root, cpus, rootPd, rootEc, rootSc, rootObjects, exc, rootPriority, rootQuantum, noEc, bootRecord, bootObject, hypervisorCap, rootCap, bootCap}
 use Rattle.interface.proofs.Basics.BoolLaws.{cases, and-left, and-right}
@@ -44,31 +44,16 @@ module _ (record-number number : ℕ) (is-number : number ≡ record-number) whe
             rw (← is-number, le-ltb number cpus g, le-ltb number rootPd h, ne-eqb number rootPd p, eq-eqb number rootEc e) (short-words (EC ∷ root ∷ []) 3)
 
         module _ (q : number ≡ rootEc → ⊥) where
-          pub sc-words : number ≡ rootSc → word (SC ∷ rootEc ∷ rootPriority ∷ rootQuantum ∷ 0 ∷ []) ≡ word (bootRecord record-number)
+          -- past the root's EC there are its SC and free records
+          past-ec : bootRecord record-number ≡ (if eqb number rootSc then SC ∷ rootEc ∷ rootPriority ∷ rootQuantum ∷ [] else [])
           unfolding bootRecord
-          sc-words e =
-              rw (
-                ← is-number,
-                le-ltb number cpus g,
-                le-ltb number rootPd h,
-                ne-eqb number rootPd p,
-                ne-eqb number rootEc q,
-                eq-eqb number rootSc e,
-              )
-              (short-words (SC ∷ rootEc ∷ rootPriority ∷ rootQuantum ∷ []) 1)
+          past-ec = rw (← is-number, le-ltb number cpus g, le-ltb number rootPd h, ne-eqb number rootPd p, ne-eqb number rootEc q)
+
+          pub sc-words : number ≡ rootSc → word (SC ∷ rootEc ∷ rootPriority ∷ rootQuantum ∷ 0 ∷ []) ≡ word (bootRecord record-number)
+          sc-words e = rw (past-ec, eq-eqb number rootSc e) (short-words (SC ∷ rootEc ∷ rootPriority ∷ rootQuantum ∷ []) 1)
 
           pub free-words : (number ≡ rootSc → ⊥) → word (free ∷ 0 ∷ 0 ∷ 0 ∷ 0 ∷ []) ≡ word (bootRecord record-number)
-          unfolding bootRecord
-          free-words n =
-              rw (
-                ← is-number,
-                le-ltb number cpus g,
-                le-ltb number rootPd h,
-                ne-eqb number rootPd p,
-                ne-eqb number rootEc q,
-                ne-eqb number rootSc n,
-              )
-              (short-words [] 5)
+          free-words n = rw (past-ec, ne-eqb number rootSc n) (short-words [] 5)
 
 -- the capability for a record
 pub object-cap : (record-number number most : ℕ) (words : Record) (cap : Cap) → word (wordsOf words) ≡ word (bootRecord record-number) →

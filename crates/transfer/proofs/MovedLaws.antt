@@ -15,10 +15,11 @@ use Rattle.interface.specs.Effects.{run, filled}
 use Rattle.interface.specs.Message.{headWords, untypedCount, typedCount, translateWindow, delegateWindow, itemWords, descriptorAt, secondAt, delegateBit, receivedWord, Item, Moved, itemOf, untypedCopied, carried, transfer}
 use Rattle.interface.proofs.Tables.TurnLaws.{run-append}
 use Rattle.interface.proofs.Tables.TableLaws.{cap-table-back}
+use Rattle.interface.proofs.Deliveries.ReceivedLaws.{copied-long}
 use Rattle.places.specs.Table.{Sized}
 use Rattle.places.proofs.CapTableLaws.{length-cap-table}
 use Rattle.blocks.specs.Fitting.{Blocks}
-use Rattle.blocks.proofs.BlockLaws.{counts-fit, copied-length}
+use Rattle.blocks.proofs.BlockLaws.{counts-fit}
 use Rattle.delegation.specs.Delegating.{LiveLinks}
 use Rattle.transfer.specs.declared.Outcome.{Outcome}
 use Rattle.transfer.specs.Typed.{itemBy, Done}
@@ -149,7 +150,7 @@ module _ {source target block : List ℕ} {untyped typed : ℕ} (b : Blocks sour
   counts = rw (u, t) (omega (arith, counts-fit (word source 0) (b .fits)))
 
   copied-full : length (untypedCopied source target) ≡ blockWords
-  copied-full = copied-length source target (b .source-length) (b .target-length) (omega (arith, counts-fit (word source 0) (b .fits)))
+  copied-full = copied-long source target (b .source-length) (b .target-length) (omega (arith, counts-fit (word source 0) (b .fits)))
 
   block-full : length block ≡ blockWords
   block-full = rw is-block copied-full

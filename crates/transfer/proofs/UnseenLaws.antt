@@ -10,7 +10,7 @@ use Rattle.descriptor.specs.declared.Match.the-variants.{Both, Neither}
 use Rattle.interface.specs.Basics.{if_then_else_, word, listed}
 use Rattle.interface.specs.Places.{State, placesIn}
 use Rattle.interface.specs.RangeDescriptors.{reading, matched}
-use Rattle.interface.specs.Effects.{Effect, fills, act, run, filled}
+use Rattle.interface.specs.Effects.{Effect, act, run, filled}
 use Rattle.interface.specs.Message.{typedCount, translateWindow, delegateWindow, descriptorAt, secondAt, delegateBit, hotspotField, Item, sourceDomain, smallerOrder, raisedBase, delegateItem, translateItem, itemOf, carried, transfer}
 use Rattle.interface.proofs.Tables.TurnLaws.{run-append, gives}
 use Rattle.delegation.proofs.DelegateLaws.{run-more, filled-more}

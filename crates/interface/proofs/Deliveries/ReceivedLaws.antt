@@ -227,7 +227,7 @@ module _ (source target : List ℕ) (source-long : length source ≡ blockWords)
   room : headWords + untypedCount (word source 0) ≤ length headed
   room = rw headed-long (omega arith)
 
-  copied-long : length (untypedCopied source target) ≡ blockWords
+  pub copied-long : length (untypedCopied source target) ≡ blockWords
   unfolding untypedCopied
   copied-long = length-paste headed headWords (drop headWords source) (untypedCount (word source 0)) room enough ∙ headed-long
 

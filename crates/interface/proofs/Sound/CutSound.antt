@@ -1,5 +1,5 @@
 -- Revocation keeps a sound state sound: with a place its descendants are cut, so that what is left of a place stays within what is left of its parent.
-use Prim.Native.Nat.{ℕ, zero, suc, _+_, _<_}
+use Prim.Native.Nat.{ℕ, suc, _+_, _<_}
 use mathlib.Core.Path.{_≡_, refl, sym, _∙_}
 use mathlib.Core.Logic.{⊎-elim}
 use mathlib.Core.Bool.{Bool, true, false, _&&_, _||_, and-false}
@@ -15,6 +15,7 @@ use Rattle.interface.specs.Places.{Cap, State, live, nothing}
 use Rattle.interface.specs.Boot.{hypervisor}
 use Rattle.interface.specs.Effects.{cut, chain, ancestors, among, below, stripped, cutCaps, act}
 use Rattle.interface.proofs.Basics.BoolLaws.{cases, not-both, and-right, or-left, or-right, either}
+use Rattle.interface.proofs.Basics.ChainLaws.{chain-none}
 use Rattle.interface.proofs.Sound.Soundness.{Sound}
 use Rattle.interface.proofs.Tables.Steps.{CutFits}
 use Rattle.interface.proofs.Sound.PlaceFacts.{null-cap, depth-small, fixed-parentless, some-live, more-live, ChildOf, live-facts}
@@ -33,11 +34,6 @@ unfolding below any
 below-child caps first size p q e d = rw (ancestors-child caps p q e d)
 
 -- a place without a parent has no ancestors
-chain-none : (steps : ℕ) (up : ℕ → ℕ) → chain steps up 0 ≡ []
-unfolding chain
-chain-none zero up = refl
-chain-none (suc steps) up = refl
-
 pub ancestors-none : (caps : ℕ → Cap) (p : ℕ) → caps p .parent ≡ 0 → ancestors caps p ≡ []
 unfolding ancestors
 ancestors-none caps p e = rw e (chain-none (caps p .depth) (λ q. caps q .parent))
