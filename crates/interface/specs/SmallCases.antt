@@ -1,4 +1,4 @@
--- Small cases worked by hand, for the definitions that the worked examples do not reach: the history, translation and the damage report.
+-- Small cases worked by hand, for the definitions that the worked examples do not reach: the history, steps, translation and the damage report.
 use Prim.Native.Nat.{ℕ, _+_, _-_}
 use mathlib.Core.Path.{_≡_}
 use mathlib.Core.Bool.{Bool, true, false, _&&_}
@@ -15,7 +15,7 @@ use Rattle.interface.specs.Basics.{if_then_else_, word, put, listed}
 use Rattle.interface.specs.Places.{Cap, State}
 use Rattle.interface.specs.Boot.{boot}
 use Rattle.interface.specs.Damage.{rulesOfDamage, firstFault}
-use Rattle.interface.specs.Effects.{give, cut}
+use Rattle.interface.specs.Effects.{give, make, hold, cut, store, filled}
 use Rattle.interface.specs.Message.{translateItem}
 use Rattle.interface.specs.History.{History, held, told, note, noteAll, heir}
 use Rattle.interface.specs.Examples.{Each, pages}
@@ -134,6 +134,8 @@ SmallCases =
     ∷ (held lineAgain 584 ≡ 5)
     ∷ (told lineAgain .caps 584 ≡ record { resource = 8; permissions = 1; parent = 393; depth = 3 })
     ∷ (heir lineAgain 200 584 ≡ true)
+    ∷  -- steps that delegate nothing fill no place by delegation
+    (filled (make 31 (5 ∷ []) ∷ store 31 1 (9 ∷ []) ∷ hold 300 31 ∷ cut 2 8 1 true ∷ []) boot ≡ 0)
     ∷  -- the two pages came from root pages 10 and 11, and these from hypervisor pages 8 and 9: the common permissions are 3
     (pagesShown 10 1 (pages 0 6) ≡ Shows (record { space = 0; base = 10; order = 1; mask = 3 }))
     ∷ (pagesShown 10 0 (pages 0 6) ≡ Shows (record { space = 0; base = 8; order = 1; mask = 3 }))

@@ -9,7 +9,7 @@ use Rattle.interface.specs.Basics.{put, listed, lowest}
 use Rattle.interface.specs.Places.{Cap}
 use Rattle.interface.specs.Boot.{boot}
 use Rattle.interface.specs.Damage.{rulesOfDamage, firstFault, soundState}
-use Rattle.interface.specs.Effects.{among}
+use Rattle.interface.specs.Effects.{among, fillsOne, filled}
 use Rattle.interface.specs.Message.{firstIn, nearest, common, translates, translateItem}
 use Rattle.interface.specs.History.{latest, standing, held, origins, placeLink, heldCap, heldAmong, cutFilling, note, noteAll, cameFrom, heir}
 use Rattle.interface.specs.Examples.{Each}
@@ -61,11 +61,11 @@ boot-faultless = kept-none boot rulesOfDamage boot-sound
 
 -- to unfold this is to unfold what the cases of the history and of translation compute by
 unfoldable small-definitions : Unit {0}
-unfolding listed steps firstIn nearest common translates translateItem latest standing held origins placeLink heldCap heldAmong cutFilling note noteAll cameFrom heir
+unfolding listed steps fillsOne filled firstIn nearest common translates translateItem latest standing held origins placeLink heldCap heldAmong cutFilling note noteAll cameFrom heir
 small-definitions = tt
 
 pub small-cases : SmallCases
 unfolding small-definitions damage-rules boot-tables put lowest recordFault placeFault
 small-cases =
-    refl and refl and refl and refl and refl and refl and refl and refl and refl and refl and refl and refl and refl and boot-faultless and
+    refl and refl and refl and refl and refl and refl and refl and refl and refl and refl and refl and refl and refl and refl and boot-faultless and
     (two-changed 9 3 _ (omega arith) refl 11 refl ∙ refl) and record-before and record-fault _ _ _ refl and (two-changed 1000 2 _ (omega arith) refl 1001 refl ∙ refl) and damage-cases and tt
