@@ -58,7 +58,7 @@ pub fn create_pd(
 {
     let domain = capabilities::domain(places, objects, caller);
     let range = Descriptor::from_word(initial).read();
-    let next = objects::count_pds(objects) + 1;
+    let next = objects::pds_below(objects, sizes::RECORDS) + 1;
     let new = Creation {
         object: Record(objects::PD, next, 0, 0, 0),
         bindable: true,

@@ -1,7 +1,7 @@
 // The object table: kinds of objects and their permissions, words of records, storing them, and what is counted in it.
 ghost use mathlib.Core.Path.{_≡_};
 ghost use mathlib.Core.List.{[]};
-ghost use Prim.Native.Nat.{_<_};
+ghost use Prim.Native.Nat.{_<_, _≤_};
 ghost use Rattle.words.specs.Sizes.{records, recordWords};
 ghost use Rattle.descriptor.specs.Numbers.{numbered};
 ghost use Rattle.interface.specs.Basics.{word, put};
@@ -168,18 +168,18 @@ pub fn free_record(table: &[u32]) -> FoundObject
     FoundObject::Beyond
 }
 
-// The number of PDs.
-pub fn count_pds(table: &[u32]) -> u32
-    requires { ⌜ Sized (now table) ⌝ }
-    ensures { λ r. ⌜ r ≡ pdsBelow (recordsIn (now (table .entry))) records ⌝ }
+// The number of PDs before a record.
+pub fn pds_below(table: &[u32], number: u32) -> u32
+    requires { ⌜ Sized (now table) × (number ≤ records) ⌝ }
+    ensures { λ r. ⌜ r ≡ pdsBelow (recordsIn (now (table .entry))) number ⌝ }
 {
     let mut count = 0u32;
-    let mut number = 0u32;
-    while number < sizes::RECORDS {
-        if load(table, ObjectNumber::counted(number), KIND) == PD {
+    let mut at = 0u32;
+    while at < number {
+        if load(table, ObjectNumber::counted(at), KIND) == PD {
             count += 1;
         }
-        number += 1;
+        at += 1;
     }
     count
 }

@@ -1,14 +1,13 @@
 -- PDs are numbered 1, 2, .. in the order of their records, so a domain has a PD exactly where it is one of as many numbers as there are PDs.
 use Prim.Native.Nat.{ℕ, _+_, _-_, _≤_, _<_}
-use mathlib.Core.Path.{_≡_, refl}
+use mathlib.Core.Path.{_≡_}
 use mathlib.Core.Bool.{Bool, true, false, _&&_, _||_, and-false}
 use mathlib.Core.List.{List}
-use native.Mathlib.Numerals.{add-one}
 use native.Mathlib.Omega.{arith}
 use lib.Dec.{eqb, leb, ltb}
 use borrow.Author.Tests.{ltb-true, leb-true, le-leb, eqb-true, eqb-false}
 use Rattle.words.specs.Sizes.{domains, records}
-use Rattle.interface.specs.Basics.{if_then_else_, allBelow, anyBelow, countBelow}
+use Rattle.interface.specs.Basics.{allBelow, anyBelow}
 use Rattle.interface.specs.Places.{Cap, State, objectAt, PD, domainWord, kindOf}
 use Rattle.interface.specs.Boot.{hypervisor}
 use Rattle.interface.specs.Damage.{used-first, pdsBelow, pd-rule, hasPd, between1}
@@ -27,15 +26,6 @@ module _ (s : State) where
   pub pds-small : (r : ℕ) → pdsBelow s r ≤ r
   unfolding pdsBelow
   pds-small r = count-below-small (λ q. eqb (kindOf s q) PD) r
-
-  pub no-pds : 0 ≡ pdsBelow s 0
-  unfolding pdsBelow countBelow
-  no-pds = refl
-
-  -- the count goes up by one past a PD
-  pub pds-next : (r before one : ℕ) → before ≡ pdsBelow s r → one ≡ (if eqb (kindOf s r) PD then 1 else 0) → before + one ≡ pdsBelow s (r + 1)
-  unfolding pdsBelow countBelow
-  pds-next r before one e o = rw (add-one, e, o)
 
   pub pds-end : (n r before : ℕ) → r ≤ n → n ≤ r → before ≡ pdsBelow s r → before ≡ pdsBelow s n
   pds-end n r before l g h = let e : r ≡ n = omega arith in rw e at h

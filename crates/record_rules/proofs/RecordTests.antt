@@ -1,7 +1,7 @@
 -- The rules of records as the code tests them: what each definition gives on each way out of the function that tests it.
 use Prim.Native.Nat.{ℕ, _+_, _-_, _≤_, _<_}
 use mathlib.Core.Path.{_≡_, refl, sym, ap, _∙_, fun-ext}
-use mathlib.Core.Bool.{Bool, true, false, not, _&&_, _||_, and-false}
+use mathlib.Core.Bool.{Bool, true, false, not, _&&_, _||_, and-true, and-false}
 use mathlib.Core.List.{List, [], _∷_, _++_}
 use native.Mathlib.Numerals.{add-one}
 use native.Mathlib.Omega.{arith}
@@ -200,13 +200,6 @@ module _ (s : State) (r : ℕ) where
   unfolding isEc
   ec-past l = rw (le-ltb r records l)
 
-  -- whether a record is a PD, as a number
-  pub pd-one : (kind : ℕ) → kind ≡ kindOf s r → kind ≡ PD → _≡_ {A = ℕ} 1 (if eqb (kindOf s r) PD then 1 else 0)
-  pd-one kind known e = rw (eq-eqb (kindOf s r) PD (sym known ∙ e))
-
-  pub pd-none : (kind : ℕ) → kind ≡ kindOf s r → (kind ≡ PD → ⊥) → _≡_ {A = ℕ} 0 (if eqb (kindOf s r) PD then 1 else 0)
-  pd-none kind known n = rw (ne-eqb (kindOf s r) PD (λ e. n (known ∙ e)))
-
 -- a free record keeps the rules where it is past the fixed ones and all 0
 module _ (s : State) (r kind : ℕ) (known : kind ≡ kindOf s r) (none : kind ≡ free) where
   is-free : kindOf s r ≡ free
@@ -271,7 +264,7 @@ module _ (s : State) (r kind : ℕ) (known : kind ≡ kindOf s r) (none : kind �
       cases (ltb rootSc r) (λ (t : ltb rootSc r ≡ true). rw t (free-rest zeros h true (fixed-kept (ltb-true rootSc r t))))
       (λ (f : ltb rootSc r ≡ false). rw f (free-rest zeros h false (fixed-broken (ltb-false rootSc r f))))
 
--- a semaphore's record keeps the rules where it is none of the fixed ones, has its count alone, and comes after a used one
+-- a semaphore's record keeps the rules where it is none of the fixed ones and has its count alone, and used records come first
 module _ (s : State) (r : ℕ) (known : kindOf s r ≡ SM) where
   no-semaphore : (other first second third : ℕ) → (SM ≡ other → ⊥) → hasWords s r other first second third ≡ false
   no-semaphore other first second third = other-words s r SM other first second third known
@@ -300,17 +293,12 @@ module _ (s : State) (r : ℕ) (known : kindOf s r ≡ SM) where
       let is-sc : r ≡ rootSc = omega (arith, eqb-false r rootPd a, eqb-false r rootEc b) in
       fixed-sc s r false is-sc (sym (no-semaphore SC rootEc rootPriority rootQuantum (λ e. omega arith))))))))
 
-  pub semaphore-early : r < cpus → false ≡ recordKeeps s r
+  pub semaphore-so : (clear : Bool) → cpus ≤ r → used-first s r ≡ true → clear ≡ clearFrom s r (countWord + 1) →
+      ((ltb r rootPd || ltb rootSc r) && clear) ≡ recordKeeps s r
   unfolding recordKeeps
-  semaphore-early l = rw (sym (fixed-idle s r false l (sym (no-semaphore SC noEc 0 0 (λ e. omega arith)))))
-
-  pub semaphore-late : (clear : Bool) (before : ℕ) → cpus ≤ r → clear ≡ clearFrom s r (countWord + 1) → before ≡ kindOf s (r - 1) →
-      ((ltb r rootPd || ltb rootSc r) && clear && not (eqb before free)) ≡ recordKeeps s r
-  unfolding recordKeeps
-  semaphore-late clear before l h e =
+  semaphore-so clear l used h =
       let interrupts : interrupt-rule s r ≡ true = sym (interrupt-so s r SM (sym known)) ∙ last-or (ltb r cpus || leb rootPd r) in
       let unnamed : unnamed-rule s r ≡ clear = sym (unnamed-so s r SM countWord clear (sym known) refl h) in
-      let used : used-first s r ≡ not (eqb before free) = sym (used-after s r SM (sym known) before (λ f. omega arith) (λ f. omega arith) e) in
       rw (
         fixed-not l,
         interrupts,
@@ -320,21 +308,23 @@ module _ (s : State) (r : ℕ) (known : kindOf s r ≡ SM) where
         sym (sc-not s r SM (sym known) refl),
         sym (pt-not s r SM (sym known) (λ f. omega arith)),
       )
-      (all-true (fixed-record s r) clear (not (eqb before free)))
+      (all-true (fixed-record s r) clear)
     where
       last-or : (x : Bool) → (x || true) ≡ true
       last-or true = refl
       last-or false = refl
 
-      all-true : (x y z : Bool) → (x && y && z) ≡ (x && true && y && z && true && true && true)
-      all-true true true true = refl
-      all-true true true false = refl
-      all-true true false true = refl
-      all-true true false false = refl
-      all-true false true true = refl
-      all-true false true false = refl
-      all-true false false true = refl
-      all-true false false false = refl
+      all-true : (x y : Bool) → (x && y) ≡ (x && true && y && true && true && true && true)
+      all-true true true = refl
+      all-true true false = refl
+      all-true false y = refl
+
+-- the other rules together, where used records come first
+pub others-so : (s : State) (r : ℕ) (fixed interrupts unnamed ec sc pt : Bool) → used-first s r ≡ true → fixed ≡ fixed-record s r → interrupts ≡ interrupt-rule s r →
+    unnamed ≡ unnamed-rule s r → ec ≡ ec-rule s r → sc ≡ sc-rule s r → pt ≡ pt-rule s r → (fixed && interrupts && unnamed && ec && sc && pt) ≡ recordKeeps s r
+unfolding recordKeeps
+others-so s r fixed interrupts unnamed ec sc pt used a b d e f g =
+    rw (a, b, d, e, f, g, used, and-true (fixed-record s r && interrupt-rule s r && unnamed-rule s r))
 
 -- an idle SC keeps the rules where it is as at boot and used records come first
 pub idle-keeps : (s : State) (r : ℕ) (same : Bool) → r < cpus → used-first s r ≡ true → same ≡ fixed-record s r → same ≡ recordKeeps s r

@@ -1,25 +1,32 @@
 -- Used records come first and free ones are all 0, exactly where the words from the first free one on are 0; then free records past the fixed ones keep the rules.
 use Prim.Native.Nat.{ℕ, zero, suc, _+_, _-_, _*_, _/_, _%_, _≤_, _<_}
 use mathlib.Core.Path.{_≡_, refl, sym, _∙_}
-use mathlib.Core.Bool.{Bool, true, false, not, _&&_, _||_}
+use mathlib.Core.Bool.{Bool, true, false, not, _||_}
 use mathlib.Core.List.{List}
-use native.Mathlib.Nat.{add-zero}
 use native.Mathlib.Omega.{arith}
 use lib.Dec.{eqb, leb, ltb}
-use borrow.Author.Tests.{ltb-true, ltb-false, lt-ltb, leb-true, leb-false, eqb-true, eqb-false, eq-eqb, ne-eqb, not-true}
+use borrow.Author.Tests.{ltb-true, ltb-false, lt-ltb, leb-true, leb-false, eqb-true, eqb-false, eq-eqb, ne-eqb}
 use Rattle.words.specs.Sizes.{records, recordWords}
+use Rattle.descriptor.specs.declared.ObjectNumber.{ObjectNumber}
+use Rattle.descriptor.specs.declared.FoundObject.{FoundObject}
+use Rattle.descriptor.specs.declared.FoundObject.the-variants.{Numbered, Beyond}
+use Rattle.descriptor.specs.Numbers.{numbered}
+use Rattle.descriptor.proofs.DescriptorLaws.{numbered-past, numbered-inside}
 use Rattle.interface.specs.Basics.{word, allBelow}
-use Rattle.interface.specs.Places.{State, free, PD, kindOf, kindWord, objectAt, objectTableWords}
+use Rattle.interface.specs.Places.{State, free, kindOf, kindWord, objectAt, objectTableWords}
 use Rattle.interface.specs.Boot.{rootSc}
 use Rattle.interface.specs.Damage.{used-first, pdsBelow, pd-rule}
+use Rattle.interface.specs.Creations.{freeRecord}
 use Rattle.interface.proofs.Basics.BoolLaws.{cases, not-both, and-left, same-test}
 use Rattle.interface.proofs.Basics.BelowLaws.{all-below-at, all-below}
-use Rattle.interface.proofs.Basics.LoopLaws.{answered-yes, answered-no, all-below-more, so-far-done}
-use Rattle.record_rules.specs.RecordKeeping.{recordsIn, clearFrom, restClear, recordKeeps, countedPds}
+use Rattle.interface.proofs.Basics.LoopLaws.{answered-yes, answered-no, so-far-done}
+use Rattle.interface.proofs.Sound.SoundObjects.{free-there, used-below-free}
+use Rattle.objects.proofs.CountingLaws.{pds-same}
+use Rattle.record_rules.specs.RecordKeeping.{recordsIn, clearFrom, restClear, recordKeeps, countedPds, UsedBefore}
 use Rattle.record_rules.specs.declared.CountedPds.the-variants.{InTurn, OutOfTurn}
 use Rattle.record_rules.proofs.TailLaws.{from-at, from-so}
-use Rattle.record_rules.proofs.RecordTests.{free-so, used-at-0, used-after, pd-not, pd-none, free-keeps}
-use Rattle.record_rules.proofs.PdLaws.{pds-next, out-of-use, in-turn}
+use Rattle.record_rules.proofs.RecordTests.{free-so, used-at-0, used-after, pd-not, free-keeps}
+use Rattle.record_rules.proofs.PdLaws.{out-of-use, in-turn}
 
 -- the words looked at, up to the last
 pub rest-done : (table : List ℕ) (r at : ℕ) (so-far : Bool) → at ≤ objectTableWords → objectTableWords ≤ at →
@@ -27,23 +34,26 @@ pub rest-done : (table : List ℕ) (r at : ℕ) (so-far : Bool) → at ≤ objec
 unfolding restClear
 rest-done table r at so-far l g h = so-far-done (λ i. ltb i (recordWords * r) || eqb (word table i) 0) objectTableWords at so-far l g h
 
--- records that are all used keep the rule that used ones come first
-module _ (s : State) where
-  abbrev pub isUsed : ℕ → Bool
-  isUsed r = not (eqb (kindOf s r) free)
+-- the lowest free record has the used ones before it
+module _ (s : State) (found : FoundObject) (is-found : found ≡ numbered (freeRecord s)) where
+  pub none-free : found ≡ Beyond → UsedBefore s records
+  none-free e =
+      let past : records ≤ freeRecord s = numbered-past (freeRecord s) (sym is-found ∙ e) in
+      record { few = omega arith; used = λ r l. used-below-free s r (omega arith); then-free = λ l. absurd (omega arith) }
 
-  pub used-more : (n kind : ℕ) → allBelow n isUsed ≡ true → kind ≡ kindOf s n → (kind ≡ free → ⊥) → allBelow (n + 1) isUsed ≡ true
-  used-more n kind before known used = all-below-more isUsed n true before (rw (ne-eqb (kindOf s n) free (λ e. used (known ∙ e)))) refl
+  pub first-free : (first : ObjectNumber) (number : ℕ) → found ≡ Numbered first → number ≡ first .0 → UsedBefore s number
+  first-free first number e n =
+      let (lowest-is, small) = numbered-inside (freeRecord s) first (sym is-found ∙ e) in
+      let same : number ≡ freeRecord s = omega arith in
+      rw same (record { few = omega arith; used = used-below-free s; then-free = free-there s })
 
-  used-below : (n : ℕ) → allBelow n isUsed ≡ true → (r : ℕ) → r < n → used-first s r ≡ true
-  used-below n before zero l = sym (used-at-0 s 0 (kindOf s 0) refl (eqb-false (kindOf s 0) free (not-true (eqb (kindOf s 0) free) (all-below-at n isUsed before 0 l))) refl)
-  used-below n before (suc r) l =
-      let back : suc r - 1 ≡ r = omega arith in
-      let itself = eqb-false (kindOf s (suc r)) free (not-true (eqb (kindOf s (suc r)) free) (all-below-at n isUsed before (suc r) l)) in
-      sym (used-after s (suc r) (kindOf s (suc r)) refl (kindOf s r) itself (λ z. omega arith) (rw back)) ∙ all-below-at n isUsed before r (omega arith)
-
-  pub all-used : (n : ℕ) → records ≤ n → allBelow n isUsed ≡ true → allBelow records (used-first s) ≡ true
-  all-used n end before = all-below records (used-first s) (λ r l. used-below n before r (omega arith))
+-- records that are used keep the rule that used ones come first
+used-below : (s : State) (n : ℕ) → UsedBefore s n → (r : ℕ) → r < n → used-first s r ≡ true
+used-below s n before zero l = sym (used-at-0 s 0 (kindOf s 0) refl (before .used 0 l) refl)
+used-below s n before (suc r) l =
+    let back : suc r - 1 ≡ r = omega arith in
+    sym (used-after s (suc r) (kindOf s (suc r)) refl (kindOf s r) (before .used (suc r) l) (λ z. omega arith) (rw back)) ∙
+    rw (ne-eqb (kindOf s r) free (before .used r (omega arith)))
 
 module _ (s : State) (used : allBelow records (used-first s) ≡ true) where
   -- a record after a free one is free
@@ -114,9 +124,8 @@ module _ (table : List ℕ) (first : ℕ) where
       let zeros = from-at recordWords (λ j. eqb (objectAt table r j) 0) kindWord (clear r from l) k (omega arith) small in
       rw there at (rw (lt-ltb k recordWords small) at zeros))
 
-  -- after used records and at a free one, used records come first exactly where all words from it on are 0
-  module _ (kind : ℕ) (clear : Bool) (known : kind ≡ kindOf (recordsIn table) first) (none : kind ≡ free) (is-clear : clear ≡ restClear table first)
-      (before : allBelow first (isUsed (recordsIn table)) ≡ true) where
+  -- after used records, up to the first free one, used records come first exactly where all words from it on are 0
+  module _ (clear : Bool) (is-clear : clear ≡ restClear table first) (before : UsedBefore (recordsIn table) first) where
     abbrev s : State
     s = recordsIn table
 
@@ -124,7 +133,8 @@ module _ (table : List ℕ) (first : ℕ) where
     rest-broken f =
         cases (allBelow records (used-first s))
         (λ (t : allBelow records (used-first s) ≡ true).
-        answered-no clear (restClear table first) is-clear f (record-rest (free-clear s t first (sym known ∙ none))))
+        answered-no clear (restClear table first) is-clear f
+        (record-rest (λ r from l. free-clear s t first (before .then-free (omega arith)) r from l)))
         (λ (g : allBelow records (used-first s) ≡ false). g)
 
     rest-used : restClear table first ≡ true → allBelow records (used-first s) ≡ true
@@ -147,13 +157,13 @@ module _ (table : List ℕ) (first : ℕ) where
         (λ (t : leb first n ≡ true).
         let past : first ≤ n = leb-true first n t in
         let is-free : kindOf s n ≡ free = rest-word zeros n kindWord past (omega arith) (omega arith) in
-        let more : pdsBelow s n + 0 ≡ pdsBelow s (n + 1) = pds-next s n (pdsBelow s n) 0 refl (pd-none s n (kindOf s n) refl (λ e. omega arith)) in
+        let more : pdsBelow s n ≡ pdsBelow s (n + 1) = pds-same s n (kindOf s n) (pdsBelow s n) refl refl (λ e. omega arith) in
         let same : n + 1 ≡ suc n = omega arith in
-        rw same at (sym more ∙ (add-zero (pdsBelow s n) ∙ rest-pds zeros n past (omega arith))))
+        rw same at (sym more ∙ rest-pds zeros n past (omega arith)))
         (λ (f : leb first n ≡ false). let past = leb-false first n f in let same : first ≡ suc n = omega arith in rw same)
 
-    pub rest-in : (pds : ℕ) → first < records → not clear ≡ false → pds ≡ pdsBelow s first → allBelow first (pd-rule s) ≡ true → InTurn pds ≡ countedPds s
-    rest-in pds l f counted kept =
+    pub rest-in : (pds : ℕ) → not clear ≡ false → pds ≡ pdsBelow s first → allBelow first (pd-rule s) ≡ true → InTurn pds ≡ countedPds s
+    rest-in pds f counted kept =
         let zeros : restClear table first ≡ true = answered-yes clear (restClear table first) is-clear f in
         in-turn s pds (rest-used zeros)
         (all-below records (pd-rule s)
@@ -162,4 +172,4 @@ module _ (table : List ℕ) (first : ℕ) where
         (λ (g : ltb r first ≡ false).
         let is-free : kindOf s r ≡ free = rest-word zeros r kindWord (ltb-false r first g) b (omega arith) in
         sym (pd-not s r (kindOf s r) refl (λ e. omega arith)))))
-        (counted ∙ sym (rest-pds zeros records (omega arith) (omega arith)))
+        (counted ∙ sym (rest-pds zeros records (before .few) (omega arith)))

@@ -1,5 +1,5 @@
 -- What the functions over records cite beside the rules of damage: the rules of a record taken together, and records whose PDs are numbered and counted.
-use Prim.Native.Nat.{ℕ, _*_}
+use Prim.Native.Nat.{ℕ, _*_, _≤_, _<_}
 use mathlib.Core.Path.{_≡_}
 use mathlib.Core.Bool.{Bool, true, _&&_, _||_}
 use mathlib.Core.List.{List, [], _∷_}
@@ -7,7 +7,7 @@ use lib.Dec.{eqb, ltb}
 use lib.ListN.{length}
 use Rattle.words.specs.Sizes.{records, recordWords}
 use Rattle.interface.specs.Basics.{if_then_else_, word, allBelow}
-use Rattle.interface.specs.Places.{State, objectTableWords}
+use Rattle.interface.specs.Places.{State, free, objectTableWords, kindOf}
 pub use Rattle.objects.specs.Records.{recordsIn}
 use Rattle.interface.specs.Damage.{fixed-record, interrupt-rule, unnamed-rule, used-first, pdsBelow, pd-rule, ec-rule, sc-rule, pt-rule}
 use Rattle.record_rules.specs.declared.CountedPds.{CountedPds}
@@ -32,6 +32,12 @@ recordKeeps s r = fixed-record s r && interrupt-rule s r && unnamed-rule s r && 
 -- how many PDs there are, if each keeps its rule and so do used records and free ones
 abbrev pub countedPds : State → CountedPds
 countedPds s = if allBelow records (used-first s) && allBelow records (pd-rule s) then InTurn (pdsBelow s records) else OutOfTurn
+
+-- so many records come before the first free one, or all are used
+pub record UsedBefore (s : State) (count : ℕ) : Type 0 where
+  pub few : count ≤ records
+  pub used : (r : ℕ) → r < count → kindOf s r ≡ free → ⊥
+  pub then-free : count < records → kindOf s count ≡ free
 
 -- used records come first in an object table, and its PDs keep their rule and are so many
 pub record Numbered (table : List ℕ) (pds : ℕ) : Type 0 where

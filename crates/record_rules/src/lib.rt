@@ -2,13 +2,14 @@
 ghost use mathlib.Core.Path.{_≡_};
 ghost use Prim.Native.Nat.{_<_, _≤_};
 ghost use mathlib.Core.Bool.{true};
-ghost use lib.Dec.{eqb};
 ghost use lib.ListN.{length};
 ghost use Rattle.words.specs.Sizes.{records, recordWords};
-ghost use Rattle.interface.specs.Basics.{if_then_else_, allBelow};
-ghost use Rattle.interface.specs.Places.{PD, SM, objectTableWords, domainWord, objectAt, kindOf};
+ghost use Rattle.interface.specs.Basics.{allBelow};
+ghost use Rattle.interface.specs.Places.{SM, objectTableWords, domainWord, objectAt, kindOf};
+ghost use Rattle.interface.specs.Boot.{cpus};
 ghost use Rattle.interface.specs.Damage.{fixed-record, interrupt-rule, unnamed-rule, used-first, pdsBelow, pd-rule, hasPd, isEc, ec-rule, sc-rule, pt-rule};
-ghost use Rattle.record_rules.specs.RecordKeeping.{recordsIn, clearFrom, restClear, hasWords, recordKeeps, Numbered, countedPds};
+ghost use Rattle.record_rules.specs.RecordKeeping.{recordsIn, clearFrom, restClear, hasWords, recordKeeps, UsedBefore, Numbered, countedPds};
+use descriptor::FoundObject;
 use descriptor::ObjectNumber;
 use words::sizes;
 
@@ -200,29 +201,15 @@ pub fn pt_keeps(objects: &[u32], number: u32) -> bool
     is_ec(objects, word_of(objects, number, objects::BOUND_EC))
 }
 
-// The number of PDs before a record.
-pub fn pds_below(objects: &[u32], number: u32) -> u32
-    requires { ⌜ (length (now objects) ≡ objectTableWords) × (number ≤ records) ⌝ }
-    ensures { λ r. ⌜ r ≡ pdsBelow (recordsIn (now (objects .entry))) number ⌝ }
+// How many records there are before the first free one.
+fn used_records(objects: &[u32]) -> u32
+    requires { ⌜ length (now objects) ≡ objectTableWords ⌝ }
+    ensures { λ r. ⌜ UsedBefore (recordsIn (now (objects .entry))) r ⌝ }
 {
-    let mut pds: u32 = 0;
-    let mut at: u32 = 0;
-    while at < number {
-        pds += pds_at(objects, at);
-        at += 1;
-    }
-    pds
-}
-
-// How many PDs a record is: 1 or 0.
-fn pds_at(objects: &[u32], number: u32) -> u32
-    requires { ⌜ (length (now objects) ≡ objectTableWords) × (number < records) ⌝ }
-    ensures { λ r. ⌜ r ≡ (if eqb (kindOf (recordsIn (now (objects .entry))) number) PD then 1 else 0) ⌝ }
-{
-    if kind_of(objects, number) == objects::PD {
-        return 1;
-    }
-    0
+    let FoundObject::Numbered(first) = objects::free_record(objects) else {
+        return sizes::RECORDS;
+    };
+    first.number()
 }
 
 // How many PDs there are, if each keeps its rule and so do used records and free ones: from the first free one on all words are 0.
@@ -230,38 +217,36 @@ pub fn pds_in_turn(objects: &[u32]) -> CountedPds
     requires { ⌜ length (now objects) ≡ objectTableWords ⌝ }
     ensures { λ r. ⌜ r ≡ countedPds (recordsIn (now (objects .entry))) ⌝ }
 {
+    let used = used_records(objects);
+    if !rest_is_clear(objects, used) {
+        return CountedPds::OutOfTurn;
+    }
     let mut before: u32 = 0;
     let mut at: u32 = 0;
-    while at < sizes::RECORDS {
-        if kind_of(objects, at) == objects::FREE {
-            if !rest_is_clear(objects, at) {
+    while at < used {
+        if kind_of(objects, at) == objects::PD {
+            if !pd_keeps(objects, at, before) {
                 return CountedPds::OutOfTurn;
             }
-            return CountedPds::InTurn(before);
+            before += 1;
         }
-        if !pd_keeps(objects, at, before) {
-            return CountedPds::OutOfTurn;
-        }
-        before += pds_at(objects, at);
         at += 1;
     }
     CountedPds::InTurn(before)
 }
 
-// Whether a semaphore's record keeps the rules: it is none of the fixed ones, has its count alone, and comes after a used one.
+// Whether a semaphore's record past the idle SCs keeps the rules: it is none of the fixed ones, and has its count alone.
 fn semaphore_keeps(objects: &[u32], number: u32) -> bool
-    requires { ⌜ (length (now objects) ≡ objectTableWords) × (number < records) × (kindOf (recordsIn (now objects)) number ≡ SM) ⌝ }
+    requires { ⌜
+        (length (now objects) ≡ objectTableWords) × (cpus ≤ number) × (number < records) × (kindOf (recordsIn (now objects)) number ≡ SM) ×
+        (used-first (recordsIn (now objects)) number ≡ true) ⌝ }
     ensures { λ r. ⌜ r ≡ recordKeeps (recordsIn (now (objects .entry))) number ⌝ }
 {
-    if number < objects::CPUS {
-        return false;
-    }
     ((number < boot::ROOT_PD) | (boot::ROOT_SC < number))
         & is_clear_from(objects, number, objects::COUNT + 1)
-        & (kind_of(objects, number - 1) != objects::FREE)
 }
 
-// Whether a record keeps the rules other than that of PDs, where there are so many PDs. An idle SC keeps them where it is as at boot.
+// Whether a record keeps the rules other than that of PDs, where there are so many PDs and used records come first. An idle SC keeps them where it is as at boot.
 fn record_keeps(objects: &[u32], number: u32, pds: u32) -> bool
     requires { ⌜ Numbered (now objects) pds × (number < records) ⌝ }
     ensures { λ r. ⌜ r ≡ recordKeeps (recordsIn (now (objects .entry))) number ⌝ }
@@ -276,7 +261,6 @@ fn record_keeps(objects: &[u32], number: u32, pds: u32) -> bool
     fixed_keeps(objects, number)
         & interrupt_keeps(objects, number)
         & unnamed_keeps(objects, number)
-        & used_first_keeps(objects, number)
         & ec_keeps(objects, number, (1 <= domain) & (domain <= pds))
         & sc_keeps(objects, number)
         & pt_keeps(objects, number)

@@ -24,7 +24,7 @@ fn record_keeps_rule(rule: u32, objects: &[u32], number: u32) -> bool
         3 => record_rules::interrupt_keeps(objects, number),
         4 => record_rules::unnamed_keeps(objects, number),
         5 => record_rules::used_first_keeps(objects, number),
-        6 => record_rules::pd_keeps(objects, number, record_rules::pds_below(objects, number)),
+        6 => record_rules::pd_keeps(objects, number, objects::pds_below(objects, number)),
         7 => record_rules::ec_keeps(
             objects,
             number,

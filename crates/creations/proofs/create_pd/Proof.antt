@@ -15,8 +15,8 @@ from-word-requires c κs = search needs
 read-requires : tie.Need-read-requires
 read-requires c κs = search needs
 
-count-pds-requires : tie.Need-count-pds-requires
-count-pds-requires c κs = search (sized-objects, needs)
+pds-below-requires : tie.Need-pds-below-requires
+pds-below-requires c κs = search (sized-objects, needs)
 
 add-next : tie.Need-add-next
 add-next c = search (next-fits, needs)
@@ -43,7 +43,7 @@ create-pd-spec =
     domain-requires
     from-word-requires
     read-requires
-    count-pds-requires
+    pds-below-requires
     add-next
     is-initial-requires
     create-requires
