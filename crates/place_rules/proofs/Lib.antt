@@ -1,4 +1,5 @@
 -- The laws that the functions' proofs and the crates above cite.
 pub mod PlaceTests
+pub mod StretchLaws
 pub mod HypervisorLaws
 pub mod QuickLaws

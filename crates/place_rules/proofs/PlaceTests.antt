@@ -5,7 +5,6 @@ use mathlib.Core.Bool.{Bool, true, false, not, _&&_, _||_, and-false}
 use mathlib.Core.List.{List}
 use native.Mathlib.Nat.{dvd-of-mod-eq-zero}
 use native.Mathlib.Omega.{arith}
-use lib.Bits.{bitOr, bitXor, and-le-l, and-le-r, or-add-and, xor-add-and, xor-self}
 use lib.Dec.{eqb, leb, ltb}
 use borrow.Author.Tests.{ltb-true, ltb-false, leb-true, leb-false, lt-ltb, le-ltb, le-leb, lt-leb, eqb-true, eqb-false, eq-eqb, ne-eqb, not-false}
 use Rattle.words.specs.Sizes.{memory, io, object, spaces, pageOrder, selectors, start, stride, placeOf, domainOf, spaceOf, places, records, greatestDepth}
@@ -16,11 +15,11 @@ use Rattle.descriptor.specs.declared.FoundPlace.{FoundPlace}
 use Rattle.descriptor.specs.declared.FoundPlace.the-variants.{At, Nowhere}
 use Rattle.descriptor.specs.Numbers.{linked}
 use Rattle.descriptor.proofs.DescriptorLaws.{linked-out, linked-inside}
-use Rattle.interface.specs.Places.{Cap, State, Tables, live, nothing, parentless, free, SC, SM, objectAt, shown, kindOf, greatestOf, greatest}
+use Rattle.interface.specs.Places.{Cap, State, Tables, live, nothing, parentless, free, SM, objectAt, shown, kindOf, greatestOf, greatest}
 use Rattle.interface.specs.Boot.{hypervisor, cpus, rootPd, bootRecord, hypervisorCap, bootCap}
 use Rattle.interface.specs.Damage.{between1, sameCap, fixed-place, hasPd, null-place, isResource, live-place, shallow, parentFits, lineageKeeps}
 use Rattle.interface.proofs.Basics.BoolLaws.{cases, and-left, and-right, both, same-test, or-none-left, or-none-right, each-of-four}
-use Rattle.interface.proofs.Sound.PlaceFacts.{same-cap, more-live}
+use Rattle.interface.proofs.Sound.PlaceFacts.{more-live}
 use Rattle.record_rules.specs.RecordKeeping.{Numbered}
 use Rattle.record_rules.proofs.PdLaws.{home-counted}
 use Rattle.place_rules.specs.PlaceKeeping.{greatestAllowed, placeKeeps, whole, part, partsBefore, extentOf, group, Around, Stretch, Passed}
@@ -80,57 +79,6 @@ of-extent place number extent numbered l h is-extent =
     let end : extent .end ≡ part * (start (extent .space) + selectors (extent .space)) = ap (λ (e : Extent). e .end) is-extent in
     rw (numbered, from, end) (extent-tells place l (extent .space) h)
 
--- words that differ in no bit are the same, gathered word by word
-gathered-word : (differing held expected : ℕ) → eqb (bitOr differing (bitXor held expected)) 0 ≡ (eqb differing 0 && eqb held expected)
-gathered-word differing held expected =
-    let difference = bitXor held expected in
-    same-test (eqb (bitOr differing difference) 0) (eqb differing 0 && eqb held expected)
-    (λ (t : eqb (bitOr differing difference) 0 ≡ true).
-    let none = eqb-true (bitOr differing difference) 0 t in
-    let sum = or-add-and differing difference in
-    let same = xor-add-and held expected in
-    let few = and-le-l differing difference in
-    let few-r = and-le-r differing difference in
-    let held-most = and-le-l held expected in
-    let expected-most = and-le-r held expected in
-    both (eqb differing 0) (eqb held expected) (eq-eqb differing 0 (omega arith)) (eq-eqb held expected (omega arith)))
-    (λ (t : (eqb differing 0 && eqb held expected) ≡ true).
-    let none = eqb-true differing 0 (and-left (eqb differing 0) (eqb held expected) t) in
-    let same = eqb-true held expected (and-right (eqb differing 0) (eqb held expected) t) in
-    rw (none, same, xor-self expected))
-
-pub gathered : (differing held expected r : Cap) → r .resource ≡ bitOr (differing .resource) (bitXor (held .resource) (expected .resource)) →
-    r .permissions ≡ bitOr (differing .permissions) (bitXor (held .permissions) (expected .permissions)) →
-    r .parent ≡ bitOr (differing .parent) (bitXor (held .parent) (expected .parent)) →
-    r .depth ≡ bitOr (differing .depth) (bitXor (held .depth) (expected .depth)) → sameCap r nothing ≡ (sameCap differing nothing && sameCap held expected)
-gathered differing held expected r a b d e =
-    rw (
-      a,
-      b,
-      d,
-      e,
-      gathered-word (differing .resource) (held .resource) (expected .resource),
-      gathered-word (differing .permissions) (held .permissions) (expected .permissions),
-      gathered-word (differing .parent) (held .parent) (expected .parent),
-      gathered-word (differing .depth) (held .depth) (expected .depth),
-    )
-    (in-pairs (eqb (differing .resource) 0) (eqb (differing .permissions) 0) (eqb (differing .parent) 0) (eqb (differing .depth) 0)
-    (eqb (held .resource) (expected .resource)) (eqb (held .permissions) (expected .permissions)) (eqb (held .parent) (expected .parent))
-    (eqb (held .depth) (expected .depth)))
-  where
-    in-pairs : (a b c d e f g h : Bool) → ((a && e) && (b && f) && (c && g) && (d && h)) ≡ ((a && b && c && d) && (e && f && g && h))
-    in-pairs true true true true e f g h = refl
-    in-pairs false b c d e f g h = refl
-    in-pairs true false c d true f g h = refl
-    in-pairs true false c d false f g h = refl
-    in-pairs true true false d true true g h = refl
-    in-pairs true true false d true false g h = refl
-    in-pairs true true false d false f g h = refl
-    in-pairs true true true false true true true h = refl
-    in-pairs true true true false true true false h = refl
-    in-pairs true true true false true false g h = refl
-    in-pairs true true true false false f g h = refl
-
 -- domain 0 at boot
 boot-there : (space selector : ℕ) → space < spaces → selector < selectors space → bootCap (placeOf hypervisor space selector) ≡ hypervisorCap space selector
 unfolding bootCap
@@ -155,13 +103,6 @@ module _ (place : ℕ) (cap : Cap) where
         let same : placeOf hypervisor object (place - start object) ≡ place = omega arith in
         rw same at (boot-there object (place - start object) (omega arith) (omega arith))
 
-    pub boot-idle : place - start object < cpus → cap ≡ parentless (place - start object) (greatestOf SC) → cap ≡ bootCap place
-    unfolding hypervisorCap bootRecord
-    boot-idle b e =
-        let early : ltb (place - start object) cpus ≡ true = lt-ltb (place - start object) cpus b in
-        let inside : ltb (place - start object) rootPd ≡ true = lt-ltb (place - start object) rootPd (omega arith) in
-        e ∙ (rw (boot-selector, inside, early))
-
     pub boot-interrupt : cpus ≤ place - start object → place - start object < rootPd → cap ≡ parentless (place - start object) (greatestOf SM) → cap ≡ bootCap place
     unfolding hypervisorCap bootRecord
     boot-interrupt d b e =
@@ -174,38 +115,38 @@ module _ (place : ℕ) (cap : Cap) where
     boot-rest d e = e ∙ (rw (boot-selector, le-ltb (place - start object) rootPd d))
 
 -- its stretches
-pub memory-stretch : Stretch 0 0 (start io) (greatest memory free)
+pub memory-stretch : Stretch 0 (start io - 1)
 memory-stretch =
     record {
+      begin = 0;
+      permissions = greatest memory free;
       after-begin = omega arith;
-      in-order = omega arith;
+      few = omega arith;
+      long = omega arith;
       in-domain = omega arith;
-      as-boot = λ p g l. let same : p - 0 ≡ p = omega arith in rw same (sym (boot-memory p (parentless p (greatest memory free)) l refl));
+      as-boot = λ p g l. let same : p - 0 ≡ p = omega arith in rw same (sym (boot-memory p (parentless p (greatest memory free)) (omega arith) refl));
     }
 
-pub io-stretch : Stretch (start io) (start io) (start object) (greatest io free)
+pub io-stretch : Stretch (start io) (start object - 1)
 io-stretch =
     record {
+      begin = start io;
+      permissions = greatest io free;
       after-begin = omega arith;
-      in-order = omega arith;
+      few = omega arith;
+      long = omega arith;
       in-domain = omega arith;
-      as-boot = λ p g l. sym (boot-io p (parentless (p - start io) (greatest io free)) g l refl);
+      as-boot = λ p g l. sym (boot-io p (parentless (p - start io) (greatest io free)) g (omega arith) refl);
     }
 
-pub idle-stretch : Stretch (start object) (start object) (start object + cpus) (greatestOf SC)
-idle-stretch =
-    record {
-      after-begin = omega arith;
-      in-order = omega arith;
-      in-domain = omega arith;
-      as-boot = λ p g l. sym (boot-idle p (parentless (p - start object) (greatestOf SC)) g (omega arith) (omega arith) refl);
-    }
-
-pub interrupt-stretch : Stretch (start object) (start object + cpus) (start object + rootPd) (greatestOf SM)
+pub interrupt-stretch : Stretch (start object + cpus) (start object + rootPd - 1)
 interrupt-stretch =
     record {
+      begin = start object;
+      permissions = greatestOf SM;
       after-begin = omega arith;
-      in-order = omega arith;
+      few = omega arith;
+      long = omega arith;
       in-domain = omega arith;
       as-boot = λ p g l. sym (boot-interrupt p (parentless (p - start object) (greatestOf SM)) (omega arith) (omega arith) (omega arith) (omega arith) refl);
     }
@@ -264,10 +205,6 @@ module _ (s : State) (p : ℕ) where
 
   pub fixed-null : (same : Bool) (a b : Cap) → start object + rootPd ≤ p → p < stride → a ≡ s .caps p → b ≡ nothing → same ≡ sameCap a b → same ≡ fixed-place s p
   fixed-null same a b g l e f h = fixed-same same a b l e (boot-rest p b (omega arith) l (omega arith) f) h
-
-  pub fixed-stretch : (from permissions : ℕ) (same : Bool) (a b : Cap) → p < stride → bootCap p ≡ parentless (p - from) permissions → a ≡ s .caps p →
-      b ≡ parentless (p - from) permissions → same ≡ sameCap a b → same ≡ fixed-place s p
-  fixed-stretch from permissions same a b l boots e f h = fixed-same same a b l e (f ∙ sym boots) h
 
   -- the parent of a capability: a word other than 0 that leads nowhere names a number past the places
   pub parent-past : (space : ℕ) (cap : Cap) (q : ℕ) → places ≤ q → false ≡ parentFits s space cap q

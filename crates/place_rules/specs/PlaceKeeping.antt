@@ -59,6 +59,19 @@ run = 64
 abbrev pub blank : List ℕ → ℕ → ℕ → Bool
 blank table first count = allBelow (placeWords * count) (λ i. eqb (word table (placeWords * first + i)) 0)
 
+-- the places of a stretch of domain 0 are held each against the one before it, so many at a time
+abbrev pub steps : ℕ
+steps = 9
+
+-- whether a word of a place is a step from that of the place before it: the same or one more, where 0 comes after the greatest
+abbrev pub isStep : ℕ → ℕ → Bool
+isStep before after = eqb after before || eqb after ((before + 1) % 2 ^ 32)
+
+-- whether each word of so many places after one is a step from that of the place before it
+abbrev pub rising : List ℕ → ℕ → ℕ → Bool
+rising table first count =
+    allBelow (placeWords * count) (λ i. isStep (word table (placeWords * first + i)) (word table (placeWords * first + i + placeWords)))
+
 -- tables of the right lengths, a place of a space, and whether its domain is 0 or has a PD
 pub record Around (tables : Tables) (place space : ℕ) (home : Bool) : Type 0 where
   pub places-long : length (tables .places) ≡ placeTableWords
@@ -67,12 +80,15 @@ pub record Around (tables : Tables) (place space : ℕ) (home : Bool) : Type 0 w
   pub in-space : space ≡ spaceOf place
   pub at-home : home ≡ (eqb (domainOf place) hypervisor || hasPd (shown tables) (domainOf place))
 
--- a stretch of domain 0: from one place up to another, resources rise by one from a start, and the permissions are the same
-pub record Stretch (begin from end permissions : ℕ) : Type 0 where
-  pub after-begin : begin ≤ from
-  pub in-order : from ≤ end
-  pub in-domain : end ≤ stride
-  pub as-boot : (p : ℕ) → from ≤ p → p < end → bootCap p ≡ parentless (p - begin) permissions
+-- a stretch of domain 0, from its first place to its last: resources rise by one from a start, and the permissions are the same
+pub record Stretch (first last : ℕ) : Type 0 where
+  pub begin : ℕ
+  pub permissions : ℕ
+  pub after-begin : begin ≤ first
+  pub few : permissions < records
+  pub long : first + steps ≤ last
+  pub in-domain : last < stride
+  pub as-boot : (p : ℕ) → first ≤ p → p ≤ last → bootCap p ≡ parentless (p - begin) permissions
 
 -- a place table and records that keep their rules, where groups of places outside domain 0 have been passed over up to one of a domain with a PD,
 -- and all places before it pass the shorter test

@@ -4,15 +4,17 @@ ghost use Prim.Native.Nat.{_+_, _-_, _%_, _<_, _≤_};
 ghost use mathlib.Core.Bool.{true, _&&_, _||_};
 ghost use lib.Dec.{eqb, leb, ltb};
 ghost use lib.ListN.{length};
-ghost use Rattle.words.specs.Sizes.{spaces, stride, spaceOf, places, records};
+ghost use Rattle.words.specs.Sizes.{object, spaces, start, stride, spaceOf, places, records};
 ghost use Rattle.interface.specs.Basics.{allBelow};
 ghost use Rattle.interface.specs.Places.{nothing, kindWord, objectAt, objectTableWords, placeTableWords, live, capAt, tables, view, greatestOf, placesIn};
+ghost use Rattle.interface.specs.Boot.{cpus};
 ghost use Rattle.interface.specs.Damage.{sameCap, fixed-place, live-place, parentFits, lineageKeeps};
 ghost use Rattle.record_rules.specs.RecordKeeping.{recordsIn, Kept};
-ghost use Rattle.place_rules.specs.PlaceKeeping.{placeKeeps, greatestAllowed, quickKeeps, extentOf, group, run, blank, Around, Stretch, Passed};
+ghost use Rattle.place_rules.specs.PlaceKeeping.{placeKeeps, greatestAllowed, quickKeeps, extentOf, group, run, blank, steps, rising, Around, Stretch, Passed};
 use descriptor::Cap;
 use descriptor::FoundPlace;
 use descriptor::Place;
+use std::num;
 use words::permissions;
 use words::sizes;
 
@@ -28,6 +30,9 @@ const GROUP: u32 = 32;
 
 // The domains without a PD are null, and looked at in longer runs: the places of a run. Each domain has a multiple of them.
 const RUN: u32 = 64;
+
+// The places of a stretch of domain 0 are held each against the one before it, so many at a time.
+const STEPS: u32 = 9;
 
 // A domain is cut into as many parts as a word has values, so that a product that wraps takes whole domains off: these parts, and those of one place, rounded up.
 const WHOLE: u64 = 1 << 32;
@@ -248,34 +253,62 @@ fn group_keeps(table: &[u32], objects: &[u32], first: u32) -> bool
     true
 }
 
-// The bits in which places ever differed from what was expected of them, with those of one more place.
-fn gather(differing: Cap, held: Cap, expected: Cap) -> Cap
-    ensures { λ r. ⌜ sameCap r nothing ≡ (sameCap differing nothing && sameCap held expected) ⌝ }
+// Whether each word of so many places after one is that of the place before it or one more.
+fn are_steps(table: &[u32], first: u32) -> bool
+    requires { ⌜ (length (now table) ≡ placeTableWords) × (first + steps < places) ⌝ }
+    ensures { λ r. ⌜ r ≡ rising (now (table .entry)) first steps ⌝ }
 {
-    Cap {
-        resource: differing.resource | (held.resource ^ expected.resource),
-        permissions: differing.permissions | (held.permissions ^ expected.permissions),
-        parent: differing.parent | (held.parent ^ expected.parent),
-        depth: differing.depth | (held.depth ^ expected.depth),
+    let start = sizes::PLACE_WORDS * (first as usize);
+    let words = sizes::PLACE_WORDS * (STEPS as usize);
+    let mut rising = true;
+    let mut i: usize = 0;
+    while i < words {
+        rising = rising
+            & (num::wrapping_sub_u32(table[start + i + sizes::PLACE_WORDS], table[start + i]) <= 1);
+        i += 1;
     }
+    rising
 }
 
-// Whether the places up to the end of a stretch are as at boot, where those before it are: resources rise by one from its start, with the same permissions.
-fn stretch_keeps(table: &[u32], start: u32, from: u32, end: u32, permissions: u32) -> bool
-    requires { ⌜ (length (now table) ≡ placeTableWords) × Stretch start from end permissions × (allBelow from (fixed-place (placesIn (now table))) ≡ true) ⌝ }
-    ensures { λ r. ⌜ r ≡ allBelow end (fixed-place (placesIn (now (table .entry)))) ⌝ }
+// Whether each word of the places after one is, up to another. The last look may go over places that were looked at before.
+fn rises(table: &[u32], first: u32, last: u32) -> bool
+    requires { ⌜ (length (now table) ≡ placeTableWords) × (first + steps ≤ last) × (last < places) ⌝ }
+    ensures { λ r. ⌜ r ≡ rising (now (table .entry)) first (last - first) ⌝ }
 {
-    let mut differing = places::without_parent(0, 0);
-    let mut at: u32 = from;
-    while at < end {
-        differing = gather(
-            differing,
-            cap_at(table, at),
-            places::without_parent(at - start, permissions),
-        );
+    let mut at: u32 = first;
+    while at + STEPS < last {
+        if !are_steps(table, at) {
+            return false;
+        }
+        at += STEPS;
+    }
+    are_steps(table, last - STEPS)
+}
+
+// Whether the places up to the last of a stretch are as at boot, where those before its first are. Where its first and last place are, and words rise by at most one from each
+// place to the next, the places in between are.
+fn stretch_keeps(table: &[u32], first: u32, last: u32) -> bool
+    requires { ⌜ (length (now table) ≡ placeTableWords) × Stretch first last × (allBelow first (fixed-place (placesIn (now table))) ≡ true) ⌝ }
+    ensures { λ r. ⌜ r ≡ allBelow (last + 1) (fixed-place (placesIn (now (table .entry)))) ⌝ }
+{
+    if !(fixed_keeps(table, first) & fixed_keeps(table, last)) {
+        return false;
+    }
+    rises(table, first, last)
+}
+
+// Whether the places up to the last idle SC of domain 0 are as at boot, where those before the first are.
+fn idle_keep(table: &[u32]) -> bool
+    requires { ⌜ (length (now table) ≡ placeTableWords) × (allBelow (start object) (fixed-place (placesIn (now table))) ≡ true) ⌝ }
+    ensures { λ r. ⌜ r ≡ allBelow (start object + cpus) (fixed-place (placesIn (now (table .entry)))) ⌝ }
+{
+    let mut fixed = true;
+    let mut at: u32 = sizes::OBJECT_START;
+    while at < IDLE_END {
+        fixed = fixed & fixed_keeps(table, at);
         at += 1;
     }
-    is_same(differing, places::without_parent(0, 0))
+    fixed
 }
 
 // Whether each place of domain 0 is as at boot: its pages, its ports, its idle SCs and its interrupts in turn, and then null places.
@@ -283,40 +316,16 @@ pub fn hypervisor_keeps(table: &[u32]) -> bool
     requires { ⌜ length (now table) ≡ placeTableWords ⌝ }
     ensures { λ r. ⌜ r ≡ allBelow stride (fixed-place (placesIn (now (table .entry)))) ⌝ }
 {
-    if !stretch_keeps(
-        table,
-        0,
-        0,
-        sizes::IO_START,
-        objects::greatest_permissions(sizes::MEMORY, objects::FREE),
-    ) {
+    if !stretch_keeps(table, 0, sizes::IO_START - 1) {
         return false;
     }
-    if !stretch_keeps(
-        table,
-        sizes::IO_START,
-        sizes::IO_START,
-        sizes::OBJECT_START,
-        objects::greatest_permissions(sizes::IO, objects::FREE),
-    ) {
+    if !stretch_keeps(table, sizes::IO_START, sizes::OBJECT_START - 1) {
         return false;
     }
-    if !stretch_keeps(
-        table,
-        sizes::OBJECT_START,
-        sizes::OBJECT_START,
-        IDLE_END,
-        objects::greatest_of(objects::SC),
-    ) {
+    if !idle_keep(table) {
         return false;
     }
-    if !stretch_keeps(
-        table,
-        sizes::OBJECT_START,
-        IDLE_END,
-        INTERRUPTS_END,
-        objects::greatest_of(objects::SM),
-    ) {
+    if !stretch_keeps(table, IDLE_END, INTERRUPTS_END - 1) {
         return false;
     }
     is_blank(table, INTERRUPTS_END, LEFT_NULL)
