@@ -9,14 +9,14 @@ use lib.Dec.{eqb, leb, ltb}
 use borrow.Author.Tests.{ltb-true, ltb-false, leb-true, le-leb, eqb-true, eqb-false, eq-eqb, not-true, not-false}
 use Rattle.words.specs.Sizes.{domainOf, placeWords}
 use Rattle.interface.specs.Basics.{word, allBelow}
-use Rattle.interface.specs.Places.{Cap, capAt, parentless}
+use Rattle.interface.specs.Places.{Cap, capAt, parentless, placesIn}
 use Rattle.interface.specs.Boot.{hypervisor, bootCap}
 use Rattle.interface.specs.Damage.{fixed-place}
 use Rattle.interface.proofs.Basics.BoolLaws.{cases, same-test, not-both, and-left, and-right, both, or-left, or-right}
 use Rattle.interface.proofs.Basics.BelowLaws.{all-below-at, all-below}
+use Rattle.interface.proofs.Basics.LoopLaws.{answered-yes, answered-no}
 use Rattle.interface.proofs.Sound.PlaceFacts.{boot-cap}
-use Rattle.record_rules.proofs.LoopLaws.{answered-yes, answered-no}
-use Rattle.place_rules.specs.PlaceKeeping.{placesIn, steps, isStep, rising, Stretch}
+use Rattle.place_rules.specs.PlaceKeeping.{steps, isStep, rising, Stretch}
 use Rattle.place_rules.proofs.PlaceTests.{fixed-same}
 
 -- a step is a difference of at most one, taken modulo the number of words

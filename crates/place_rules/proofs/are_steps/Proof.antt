@@ -4,7 +4,7 @@ use mathlib.Core.Path.{_≡_}
 use native.Mathlib.Omega.{arith}
 use Rattle.words.specs.Sizes.{placeWords}
 use Rattle.interface.specs.Basics.{allBelow, word}
-use Rattle.record_rules.proofs.LoopLaws.{so-far-none, so-far-more, so-far-done}
+use Rattle.interface.proofs.Basics.LoopLaws.{so-far-none, so-far-more, so-far-done}
 use Rattle.place_rules.specs.PlaceKeeping.{steps, isStep}
 use Rattle.place_rules.proofs.StretchLaws.{step-so}
 use borrow.Author.Needs.{needs}

@@ -4,10 +4,10 @@ use mathlib.Core.Path.{_≡_, sym}
 use native.Mathlib.Omega.{arith}
 use Rattle.words.specs.Sizes.{object, start}
 use Rattle.interface.specs.Basics.{allBelow}
+use Rattle.interface.specs.Places.{placesIn}
 use Rattle.interface.specs.Boot.{cpus}
 use Rattle.interface.specs.Damage.{fixed-place}
-use Rattle.record_rules.proofs.LoopLaws.{so-far-more, so-far-done}
-use Rattle.place_rules.specs.PlaceKeeping.{placesIn}
+use Rattle.interface.proofs.Basics.LoopLaws.{so-far-more, so-far-done}
 use borrow.Author.Needs.{needs}
 use Rattle.place_rules.proofs.idle_keep.Statement.{statement}
 use Rattle.place_rules.proofs.idle_keep.Tie as tie
