@@ -1,4 +1,5 @@
-// The domains of a spectrometer's controller: what each is called, and where it has its EC, its portals and the ports of the shutter and of the warning lamp.
+// The domains of a spectrometer's controller: what each is called, where it has its EC, its portals and the ports of the shutter and of the warning lamp, and who has the shutter's
+// ports from it.
 ghost use Prim.Native.Nat.{_+_, _≤_, _<_};
 ghost use mathlib.Core.Path.{_≡_};
 ghost use mathlib.Core.Bool.{true};
@@ -22,12 +23,10 @@ pub const TEST: u32 = 4;
 
 pub const SPARE: u32 = 5;
 
-// The two tables, and the list of a census.
+// The two tables.
 pub type Places = [u32; sizes::PLACE_TABLE_WORDS];
 
 pub type Objects = [u32; sizes::OBJECT_TABLE_WORDS];
-
-pub type List = [u32; sizes::PLACES as usize];
 
 // How many ports the shutter has. The warning lamp's port is the next one after them in each domain.
 const SHUTTER_PORTS: u32 = 4;
@@ -45,18 +44,8 @@ pub fn say_name(domain: u32) {
     }
 }
 
-// Begins a line with a domain and what it does.
-pub fn say_who(domain: u32, what: &[u8]) {
-    say(b"The ");
-    say_name(domain);
-    if domain != ROOT {
-        say(b" domain");
-    }
-    say(what);
-}
-
 // Writes where a place is: its domain, space and selector.
-pub fn say_place(word: u32) {
+fn say_place(word: u32) {
     let FoundPlace::At(place) = Place::found(word) else {
         say(b"NO PLACE");
         return;
@@ -70,7 +59,7 @@ pub fn say_place(word: u32) {
 }
 
 // Names the first places of a list, one a line.
-pub fn name_places(list: &[u32], count: u32) {
+fn name_places(list: &[u32], count: u32) {
     let mut i: usize = 0;
     while i < list.len() {
         if i >= count as usize {
@@ -138,21 +127,22 @@ pub fn lamp(domain: u32) -> u32
 }
 
 // Takes the census of a place, and names each place that has its capability from there.
-fn name_heirs(place: u32, places: &Places, objects: &Objects, list: &mut List) {
+fn name_heirs(place: u32, places: &Places, objects: &Objects) {
+    let mut list = [0u32; sizes::PLACES as usize];
     say_place(place);
     say(b": lent to ");
-    let reply = kernel::census(place, places, objects, list);
+    let reply = kernel::census(place, places, objects, &mut list);
     printing::say_places(reply, b"\n");
-    name_places(list, reply.answer());
+    name_places(&list, reply.answer());
 }
 
 // Takes the census of each of the shutter's ports of a domain.
-pub fn name_shutter_heirs(domain: u32, places: &Places, objects: &Objects, list: &mut List)
+pub fn name_shutter_heirs(domain: u32, places: &Places, objects: &Objects)
     requires { ⌜ domain < domains ⌝ }
 {
     let first = domain * sizes::STRIDE + sizes::IO_START + ports(domain);
-    name_heirs(first, places, objects, list);
-    name_heirs(first + 1, places, objects, list);
-    name_heirs(first + 2, places, objects, list);
-    name_heirs(first + 3, places, objects, list);
+    name_heirs(first, places, objects);
+    name_heirs(first + 1, places, objects);
+    name_heirs(first + 2, places, objects);
+    name_heirs(first + 3, places, objects);
 }

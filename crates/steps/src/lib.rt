@@ -1,5 +1,5 @@
-// What the domains of a spectrometer's controller do with the ports of its shutter, the port of its warning lamp and the page of its spectrum. Each step writes what is done and
-// what came of it.
+// What the domains of a spectrometer's controller do with the ports of its shutter, the port of its warning lamp and the page of its spectrum. Each step writes what came of
+// it.
 ghost use Prim.Native.Nat.{_<_};
 ghost use Rattle.words.specs.Sizes.{spaces, selectors};
 use descriptor::Reply;
@@ -10,7 +10,6 @@ use spectrometer::Objects;
 use spectrometer::Places;
 use spectrometer::ROOT;
 use spectrometer::portal_to;
-use spectrometer::say_who;
 use words::sizes;
 
 // The order of the range of the shutter's ports.
@@ -48,8 +47,7 @@ pub fn make_domain(domain: u32, places: &mut Places, objects: &mut Objects) {
 }
 
 // The root lends a domain the portal to the next one.
-pub fn connect(domain: u32, what: &[u8], places: &mut Places, objects: &mut Objects) {
-    say_who(domain, what);
+pub fn connect(domain: u32, places: &mut Places, objects: &mut Objects) {
     let onward = requests::single(sizes::OBJECT, portal_to(spectrometer::next(domain)));
     let portal = portal_to(domain);
     let reply = requests::lend(boot::ROOT_EC, portal, onward, onward, places, objects);
@@ -57,22 +55,13 @@ pub fn connect(domain: u32, what: &[u8], places: &mut Places, objects: &mut Obje
 }
 
 // The root takes a range of the hypervisor's.
-pub fn take(range: u32, what: &[u8], places: &mut Places, objects: &mut Objects) {
-    say_who(ROOT, what);
+pub fn take(range: u32, places: &mut Places, objects: &mut Objects) {
     let reply = requests::take(portal_to(ROOT), range, places, objects);
     say_filled(reply);
 }
 
 // A domain lends a range to the next one.
-pub fn lend(
-    domain: u32,
-    what: &[u8],
-    item: u32,
-    window: u32,
-    places: &mut Places,
-    objects: &mut Objects,
-) {
-    say_who(domain, what);
+pub fn lend(domain: u32, item: u32, window: u32, places: &mut Places, objects: &mut Objects) {
     let onward = portal_to(spectrometer::next(domain));
     let ec = spectrometer::ec(domain);
     let reply = requests::lend(ec, onward, item, window, places, objects);
@@ -80,21 +69,20 @@ pub fn lend(
 }
 
 // A domain lends the shutter's ports to the next one.
-pub fn lend_shutter(domain: u32, what: &[u8], places: &mut Places, objects: &mut Objects) {
+pub fn lend_shutter(domain: u32, places: &mut Places, objects: &mut Objects) {
     let window = shutter(spectrometer::next(domain));
-    lend(domain, what, shutter(domain), window, places, objects);
+    lend(domain, shutter(domain), window, places, objects);
 }
 
 // A domain lends the lamp's port to the next one.
-pub fn lend_lamp(domain: u32, what: &[u8], places: &mut Places, objects: &mut Objects) {
+pub fn lend_lamp(domain: u32, places: &mut Places, objects: &mut Objects) {
     let window = lamp(spectrometer::next(domain));
-    lend(domain, what, lamp(domain), window, places, objects);
+    lend(domain, lamp(domain), window, places, objects);
 }
 
-// Says what a domain finds at a selector, after a few words, and answers with the reply.
-fn find(
+// A domain looks at a selector, and learns the reply.
+pub fn look(
     domain: u32,
-    before: &[u8],
     space: u32,
     selector: u32,
     places: &mut Places,
@@ -102,7 +90,6 @@ fn find(
 ) -> Reply
     requires { ⌜ (space < spaces) × (selector < selectors space) ⌝ }
 {
-    say(before);
     printing::say_selector(space, selector);
     let range = requests::single(space, selector);
     let reply = requests::look_up(spectrometer::ec(domain), range, places, objects);
@@ -110,28 +97,15 @@ fn find(
     reply
 }
 
-// A domain looks at a selector, and learns the reply.
-pub fn look(
-    domain: u32,
-    what: &[u8],
-    space: u32,
-    selector: u32,
-    places: &mut Places,
-    objects: &mut Objects,
-) -> Reply
-    requires { ⌜ (space < spaces) × (selector < selectors space) ⌝ }
-{
-    say_who(domain, what);
-    find(domain, b", ", space, selector, places, objects)
-}
-
 // A domain looks at each selector where it had the shutter's ports.
 pub fn look_for_shutter(domain: u32, places: &mut Places, objects: &mut Objects) {
     let first = spectrometer::ports(domain);
-    let indent = b"  ";
-    say_who(domain, b" looks for the shutter's ports\n");
-    find(domain, indent, sizes::IO, first, places, objects);
-    find(domain, indent, sizes::IO, first + 1, places, objects);
-    find(domain, indent, sizes::IO, first + 2, places, objects);
-    find(domain, indent, sizes::IO, first + 3, places, objects);
+    say(b"  ");
+    look(domain, sizes::IO, first, places, objects);
+    say(b"  ");
+    look(domain, sizes::IO, first + 1, places, objects);
+    say(b"  ");
+    look(domain, sizes::IO, first + 2, places, objects);
+    say(b"  ");
+    look(domain, sizes::IO, first + 3, places, objects);
 }
