@@ -1,4 +1,4 @@
-// The domains of a spectrometer's controller: what each is called, where it has its EC, its portals and the ports of the shutter and of the warning lamp, and who has the shutter's
+// The domains of a spectrometer's controller: what each is called, which EC it has, its portals and the ports of the shutter and of the warning lamp, and who has the shutter's
 // ports from it.
 ghost use Prim.Native.Nat.{_+_, _≤_, _<_};
 ghost use mathlib.Core.Path.{_≡_};
