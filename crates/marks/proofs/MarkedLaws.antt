@@ -1,9 +1,8 @@
 -- Laws of the marked places: the next of them, their number and their list.
 use Prim.Native.Nat.{ℕ, zero, suc, _+_, _-_, _*_, _/_, _%_, _^_, _≤_, _<_}
 use mathlib.Core.Path.{_≡_, refl, sym, ap, _∙_}
-use mathlib.Core.Bool.{Bool, true, false}
-use mathlib.Core.List.{List, [], _∷_, _++_, append-nil}
-use native.Mathlib.Decide.{le-ind}
+use mathlib.Core.Bool.{true, false}
+use mathlib.Core.List.{List, [], _∷_, _++_}
 use native.Mathlib.Nat.{le-refl, add-zero, pow-zero, div-one, div-eq-of-lt}
 use native.Mathlib.Numerals.{add-one, one-add}
 use native.Mathlib.Omega.{arith}
@@ -16,30 +15,8 @@ use borrow.Author.Tests.{ltb-true, ltb-false, eqb-true, eqb-false}
 use Rattle.words.specs.Sizes.{places}
 use Rattle.interface.specs.Basics.{gather, word}
 use Rattle.interface.proofs.Basics.BoolLaws.{cases}
+use Rattle.interface.proofs.Basics.GatherLaws.{gather-more, gather-none, gather-longer, gather-past}
 use Rattle.marks.specs.PlaceBits.{wordBits, markWords, bitAt, NextMarked, markedPlaces}
-
--- what the next number adds to those that a test holds of, and that they are no fewer further on
-module _ (n : ℕ) (test : ℕ → Bool) where
-  gather-more : test n ≡ true → gather (n + 1) test ≡ gather n test ++ (n ∷ [])
-  unfolding gather
-  gather-more t = rw (add-one n) (rw t)
-
-  gather-none : test n ≡ false → gather (n + 1) test ≡ gather n test
-  unfolding gather
-  gather-none f = rw (add-one n) (rw f (append-nil (gather n test)))
-
-  gather-longer : (m : ℕ) → n ≤ m → length (gather n test) ≤ length (gather m test)
-  unfolding gather
-  gather-longer m l =
-      le-ind (λ (k : ℕ). length (gather n test) ≤ length (gather k test)) (le-refl (length (gather n test)))
-      (λ k _ ih. simp length-append (omega arith)) m l
-
--- numbers that a test does not hold of add nothing
-gather-past : (n more : ℕ) (test : ℕ → Bool) → ((p : ℕ) → n ≤ p → p < n + more → test p ≡ false) → gather (n + more) test ≡ gather n test
-gather-past n zero test none = rw (add-zero n)
-gather-past n (suc more) test none =
-    let next : n + suc more ≡ n + more + 1 = omega arith in
-    rw next (gather-none (n + more) test (none (n + more) (omega arith) (omega arith)) ∙ gather-past n more test (λ p low high. none p low (omega arith)))
 
 -- one more number stored behind those at the start of a list
 stored-next : (found list : List ℕ) (n : ℕ) → length found < length list →

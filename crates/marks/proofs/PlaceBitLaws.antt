@@ -1,7 +1,7 @@
 -- Laws of a bit for each place: one is set and read back, and those of a range are set in turn.
 use Prim.Native.Nat.{ℕ, zero, suc, _+_, _-_, _*_, _/_, _%_, _^_, _<_, max}
-use mathlib.Core.Path.{_≡_, refl, ap, _∙_}
-use mathlib.Core.Bool.{Bool, true, false, _&&_, _||_, and-false}
+use mathlib.Core.Path.{_≡_, refl, sym, ap, _∙_}
+use mathlib.Core.Bool.{Bool, true, false, _&&_, _||_, and-false, or-false}
 use mathlib.Core.List.{List}
 use native.Mathlib.Nat.{one-mul, div-eq-of-lt, zero-div, pow-suc}
 use native.Mathlib.Omega.{arith}
@@ -115,12 +115,8 @@ module _ (asked : Bool) (before : List ℕ) (first : ℕ) where
             let none : among first 0 p ≡ false =
             cases (leb first p) (λ (t : leb first p ≡ true). let from = leb-true first p t in rw (t, le-ltb p (first + 0) (omega arith)))
             (λ (f : leb first p ≡ false). rw f) in
-            rw (none, and-false asked) (or-same (bitAt before p));
+            rw (none, and-false asked) (sym (or-false (bitAt before p)));
       }
-    where
-      or-same : (b : Bool) → b ≡ (b || false)
-      or-same true = refl
-      or-same false = refl
 
   pub range-more : (offset : ℕ) {now after : List ℕ} {place : ℕ} → RangeToo asked before first offset now → place ≡ first + offset → SetIf asked now place after →
       RangeToo asked before first (offset + 1) after

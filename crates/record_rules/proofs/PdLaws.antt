@@ -18,7 +18,6 @@ use Rattle.interface.proofs.Sound.PlaceFacts.{pd-numbered}
 use Rattle.interface.proofs.Sound.Soundness.{OfRecords}
 use Rattle.interface.proofs.Sound.SoundFacts.{has-pd}
 use Rattle.record_rules.specs.RecordKeeping.{recordsIn, Numbered, countedPds}
-use Rattle.record_rules.specs.declared.CountedPds.{CountedPds}
 use Rattle.record_rules.specs.declared.CountedPds.the-variants.{InTurn, OutOfTurn}
 
 module _ (s : State) where

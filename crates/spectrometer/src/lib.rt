@@ -121,7 +121,7 @@ pub fn ports(domain: u32) -> u32
 
 // The selector where a domain has the lamp's port.
 pub fn lamp(domain: u32) -> u32
-    ensures { λ r. ⌜ r + 4 ≤ selectors io ⌝ }
+    ensures { λ r. ⌜ (1 ≤ r) × (r + 4 ≤ selectors io) ⌝ }
 {
     ports(domain) + SHUTTER_PORTS
 }

@@ -1,7 +1,7 @@
 -- Laws of revocation on the place table: what stripping one place leaves, and what stripping the marked places in turn leaves.
 use Prim.Native.Nat.{ℕ, _+_, _≤_, _<_}
-use mathlib.Core.Path.{_≡_, refl, sym, ap, _∙_}
-use mathlib.Core.Bool.{Bool, true, false, _&&_, _||_}
+use mathlib.Core.Path.{_≡_, sym, ap, _∙_}
+use mathlib.Core.Bool.{Bool, true, false}
 use mathlib.Core.List.{List}
 use native.Mathlib.Omega.{arith}
 use lib.Dec.{eqb, ltb}
@@ -11,7 +11,7 @@ use Rattle.words.specs.Sizes.{places}
 use Rattle.words.specs.Permissions.{revoked}
 use Rattle.interface.specs.Basics.{if_then_else_, put}
 use Rattle.interface.specs.Places.{Cap, nothing, capAt, capTable}
-use Rattle.interface.specs.Effects.{among, below, stripped, cutCaps}
+use Rattle.interface.specs.Effects.{below, stripped, cutCaps}
 use Rattle.interface.proofs.Basics.BoolLaws.{cases}
 use Rattle.interface.proofs.Basics.PutLaws.{put-same, put-other}
 use Rattle.interface.proofs.Tables.TableLaws.{cap-table-back}

@@ -1,13 +1,12 @@
 -- Places that are not below a range: those of another space, since a walk stays in one space, and those of a word that has no parents.
 use Prim.Native.Nat.{ℕ, zero, suc, _+_, _-_, _≤_, _<_}
 use mathlib.Core.Path.{_≡_, refl, sym, _∙_}
-use mathlib.Core.Bool.{Bool, true, false, _&&_}
-use native.Mathlib.Numerals.{add-one}
+use mathlib.Core.Bool.{Bool, true, false}
 use native.Mathlib.Omega.{arith}
 use lib.Dec.{eqb, leb, ltb}
 use borrow.Author.Tests.{leb-true, ltb-true, eqb-true, eqb-false}
 use Rattle.words.specs.Sizes.{spaceOf, places}
-use Rattle.interface.specs.Basics.{allBelow, any}
+use Rattle.interface.specs.Basics.{any}
 use Rattle.interface.specs.Places.{Cap}
 use Rattle.interface.specs.Effects.{ancestors, among, below}
 use Rattle.interface.proofs.Basics.BoolLaws.{cases, and-left, and-right}
@@ -60,17 +59,3 @@ parentless-below caps first size from is-parentless all p low high =
     let there : from + i ≡ p = omega arith in
     let root = eqb-true (caps (from + i) .parent) 0 (all-below-at wordBits (λ (j : ℕ). eqb (caps (from + j) .parent) 0) (sym is-parentless ∙ all) i (omega arith)) in
     rw (ancestors-none caps p (rw there at root))
-
--- the places of a word looked at in turn
-module _ (caps : ℕ → Cap) (from : ℕ) where
-  pub parentless-none : true ≡ parentlessFrom caps from 0
-  unfolding parentlessFrom allBelow
-  parentless-none = refl
-
-  pub parentless-more : (offset : ℕ) {so-far : Bool} {at : ℕ} {cap : Cap} → so-far ≡ parentlessFrom caps from offset → at ≡ from + offset → cap ≡ caps at →
-      (so-far && eqb (cap .parent) 0) ≡ parentlessFrom caps from (offset + 1)
-  unfolding parentlessFrom allBelow
-  parentless-more offset is-so-far is-at is-cap = rw (add-one offset) (rw (is-so-far, is-cap, is-at))
-
-  pub parentless-all : (offset : ℕ) {so-far : Bool} → so-far ≡ parentlessFrom caps from offset → offset ≡ wordBits → so-far ≡ parentlessFrom caps from wordBits
-  parentless-all offset is-so-far all = rw all at is-so-far

@@ -1,6 +1,6 @@
 -- Laws of walks along parent links: a walk ends at a place without a parent, and goes on from a parent, whose depth is one less.
 use Prim.Native.Nat.{ℕ, suc, _-_, _≤_, _<_}
-use mathlib.Core.Path.{_≡_, refl, sym, ap, _∙_}
+use mathlib.Core.Path.{_≡_, sym, ap, _∙_}
 use mathlib.Core.Bool.{Bool, true, false, _||_}
 use mathlib.Core.List.{_∷_}
 use native.Mathlib.Omega.{arith}

@@ -1,6 +1,6 @@
 -- Laws of sizes: the order and the number of selectors of the object space and of the others, and that no space has more selectors than the object space.
 use Prim.Native.Nat.{ℕ, _^_, _≤_}
-use mathlib.Core.Path.{_≡_, refl}
+use mathlib.Core.Path.{_≡_}
 use mathlib.Core.Bool.{Bool, true, false, cond}
 use native.Mathlib.Omega.{arith}
 use lib.Dec.{eqb}

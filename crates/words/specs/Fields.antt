@@ -1,5 +1,5 @@
 -- Fields of a word. Words are unsigned and have 32 bits, counted from 0.
-use Prim.Native.Nat.{ℕ, suc, _+_, _-_, _*_, _/_, _%_, _^_}
+use Prim.Native.Nat.{ℕ, _+_, _-_, _/_, _%_, _^_}
 
 -- the number that bits `low` to `high` of a word hold
 abbrev pub bits : ℕ → ℕ → ℕ → ℕ

@@ -1,11 +1,15 @@
--- Laws of the numbers below one that a test holds of, gathered in a list: which they are, and that they rise.
-use Prim.Native.Nat.{ℕ, zero, suc, _<_}
-use mathlib.Core.Path.{_≡_, refl, sym}
+-- Laws of the numbers below one that a test holds of, gathered in a list: what the next number adds to them, which they are, and that they rise.
+use Prim.Native.Nat.{ℕ, zero, suc, _+_, _≤_, _<_}
+use mathlib.Core.Path.{_≡_, refl, sym, _∙_}
 use mathlib.Core.Logic.{⊎-elim}
 use mathlib.Core.Bool.{Bool, true, false, _&&_, _||_, or-false, or-assoc}
 use mathlib.Core.List.{List, [], _∷_, _++_, append-nil}
+use native.Mathlib.Decide.{le-ind}
+use native.Mathlib.Nat.{le-refl, add-zero}
+use native.Mathlib.Numerals.{add-one}
 use native.Mathlib.Omega.{arith}
 use lib.Dec.{eqb, ltb}
+use lib.ListN.{length, length-append}
 use borrow.Author.Tests.{eq-eqb, eqb-true, lt-ltb, le-ltb, ltb-true}
 use Rattle.interface.specs.Basics.{if_then_else_, gather, all, any, member, rising}
 use Rattle.interface.proofs.Basics.BoolLaws.{and-left, and-right, both, either, or-left, or-right, same-test, either-way}
@@ -16,6 +20,29 @@ pub gather-same : (n : ℕ) (test other : ℕ → Bool) → ((i : ℕ) → i < n
 unfolding gather
 gather-same zero test other h = refl
 gather-same (suc n) test other h = rw (gather-same n test other (λ i l. h i (omega arith)), h n (omega arith))
+
+-- what the next number adds to those that a test holds of, and that they are no fewer further on
+module _ (n : ℕ) (test : ℕ → Bool) where
+  pub gather-more : test n ≡ true → gather (n + 1) test ≡ gather n test ++ (n ∷ [])
+  unfolding gather
+  gather-more t = rw (add-one n) (rw t)
+
+  pub gather-none : test n ≡ false → gather (n + 1) test ≡ gather n test
+  unfolding gather
+  gather-none f = rw (add-one n) (rw f (append-nil (gather n test)))
+
+  pub gather-longer : (m : ℕ) → n ≤ m → length (gather n test) ≤ length (gather m test)
+  unfolding gather
+  gather-longer m l =
+      le-ind (λ (k : ℕ). length (gather n test) ≤ length (gather k test)) (le-refl (length (gather n test)))
+      (λ k _ ih. simp length-append (omega arith)) m l
+
+-- numbers that a test does not hold of add nothing
+pub gather-past : (n more : ℕ) (test : ℕ → Bool) → ((p : ℕ) → n ≤ p → p < n + more → test p ≡ false) → gather (n + more) test ≡ gather n test
+gather-past n zero test none = rw (add-zero n)
+gather-past n (suc more) test none =
+    let next : n + suc more ≡ n + more + 1 = omega arith in
+    rw next (gather-none (n + more) test (none (n + more) (omega arith) (omega arith)) ∙ gather-past n more test (λ p low high. none p low (omega arith)))
 
 -- a test holds of all members of two lists in turn where it does of each list's; and of a list's where one does that holds only where it does
 all-append : {A : Type 0} (test : A → Bool) (xs ys : List A) → all test xs ≡ true → all test ys ≡ true → all test (xs ++ ys) ≡ true

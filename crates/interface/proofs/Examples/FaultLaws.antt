@@ -17,14 +17,11 @@ use Rattle.interface.specs.Damage.{Rule, fixed-record, fixed-place, hasP
 use Rattle.interface.specs.Effects.{among}
 use Rattle.interface.proofs.Basics.BoolLaws.{cases, and-right}
 use Rattle.interface.proofs.Basics.BelowLaws.{lowest-failure, failure-fails, below-failure, failure-at, all-hold}
-use Rattle.interface.proofs.Sound.Soundness.{OfRecords, OfPlaces, Kept, Sound, sound-facts, record-rules}
+use Rattle.interface.proofs.Sound.Soundness.{OfRecords, OfPlaces, Kept, Sound, sound-facts, record-rules, trivial}
 use Rattle.interface.proofs.History.BootLaws.{boot-sound, boot-parent}
 
 abbrev at-boot : Sound boot
 at-boot = sound-facts boot boot-sound
-
-trivial : {n : ℕ} (r : ℕ) → r < n → true ≡ true
-trivial r h = refl
 
 -- the first fault of a state's records, whatever its places
 unfoldable pub recordFault : State → List Rule → Fault

@@ -93,7 +93,7 @@ sound-facts s h =
       shallows = k .1 .1 .1 .1 .1 .1 .1 .1 .1 .1 .0 .1;
     }
 
-trivial : {n : ℕ} (r : ℕ) → r < n → true ≡ true
+pub trivial : {n : ℕ} (r : ℕ) → r < n → true ≡ true
 trivial r h = refl
 
 pub facts-sound : (s : State) → Sound s → soundState s ≡ true

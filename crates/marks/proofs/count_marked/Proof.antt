@@ -1,8 +1,7 @@
 -- The marked places of the words before the loop's are counted, and each word has no more than its bits.
 use Prim.Native.Nat.{_-_, _*_, _≤_}
-use mathlib.Core.Path.{_≡_, refl}
+use mathlib.Core.Path.{_≡_}
 use native.Mathlib.Omega.{arith}
-use denote.Ref.{now}
 use lib.Count.{ones-le}
 use lib.ListN.{length}
 use Rattle.marks.specs.PlaceBits.{wordBits, markWords}

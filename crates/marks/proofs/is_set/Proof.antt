@@ -1,5 +1,4 @@
 -- The bit of the place's number.
-use native.Mathlib.Omega.{arith}
 use borrow.Author.Needs.{needs}
 use Rattle.marks.specs.PlaceBits.{bitAt}
 use Rattle.marks.proofs.is_set.Statement.{statement}

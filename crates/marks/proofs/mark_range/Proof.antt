@@ -1,6 +1,6 @@
 -- The places of the range before the loop's offset are marked.
 use Prim.Native.Nat.{_-_, _≤_}
-use mathlib.Core.Path.{_≡_, _∙_}
+use mathlib.Core.Path.{_∙_}
 use native.Mathlib.Omega.{arith}
 use Rattle.marks.specs.PlaceBits.{RangeToo}
 use Rattle.marks.proofs.PlaceBitLaws.{range-none, range-more, range-all}

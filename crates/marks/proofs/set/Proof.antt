@@ -1,5 +1,4 @@
 -- The word of the place's number is written with one more bit, or nothing is.
-use mathlib.Core.Path.{_≡_, refl}
 use native.Mathlib.Omega.{arith}
 use Rattle.marks.proofs.PlaceBitLaws.{set-one, set-none}
 use borrow.Author.Needs.{needs}

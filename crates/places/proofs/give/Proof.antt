@@ -1,5 +1,4 @@
 -- The test is the definition's, the capability stored is what delegation hands on, and a table without a store is the table of what it shows.
-use native.Mathlib.Omega.{arith}
 use borrow.Author.Needs.{needs}
 use Rattle.places.proofs.GivenLaws.{next-depth-fits, given-none, given-one}
 use Rattle.places.proofs.give.Statement.{statement}

@@ -1,6 +1,5 @@
 -- The measure is the place's depth: a walk ends at a place without a parent, and goes on from a parent, whose depth is one less.
 use Prim.Native.Nat.{ℕ, _<_}
-use native.Mathlib.Omega.{arith}
 use borrow.Author.Needs.{needs}
 use borrow.Fn.Kinds.{In}
 use borrow.Fn.PlainCycle.{Measures, is, falls, and}

@@ -4,9 +4,9 @@ use mathlib.Core.Path.{_≡_}
 use native.Mathlib.Omega.{arith}
 use borrow.Author.Needs.{needs}
 use Rattle.interface.specs.Places.{capAt}
+use Rattle.interface.proofs.Basics.LoopLaws.{so-far-none, so-far-more, so-far-done}
 use Rattle.marks.specs.PlaceBits.{wordBits}
 use Rattle.tree.specs.Walks.{parentlessFrom}
-use Rattle.tree.proofs.UnmarkedLaws.{parentless-none, parentless-more, parentless-all}
 use Rattle.tree.proofs.are_parentless.Statement.{statement}
 use Rattle.tree.proofs.are_parentless.Tie as tie
 
@@ -17,7 +17,8 @@ abbrev μ-loop : tie.MeasureT-loop
 μ-loop table from parentless₀ offset₀ parentless offset = wordBits - offset
 
 loop-holds : tie.Need-loop-holds Inv-loop μ-loop
-loop-holds c = (omega arith, parentless-none _ _)
+unfolding parentlessFrom
+loop-holds c = (omega arith, so-far-none _)
 
 after-requires : tie.Need-after-requires Inv-loop μ-loop
 after-requires c κs = omega arith
@@ -32,10 +33,12 @@ loop-less : tie.Need-loop-less Inv-loop μ-loop
 loop-less c = search needs
 
 loop-again : tie.Need-loop-again Inv-loop μ-loop
-loop-again c = (omega arith, parentless-more _ _ _ (c .before .before .before .before .loop .inv .1) (c .before .before .after .ensures) (c .before .load .ensures))
+unfolding parentlessFrom
+loop-again c = (omega arith, so-far-more _ _ _ _ (c .before .before .before .before .loop .inv .1) (rw (c .before .load .ensures, c .before .before .after .ensures)))
 
 returns : tie.Need-returns Inv-loop μ-loop
-returns c = parentless-all _ _ _ (c .before .loop .inv .1) (omega arith)
+unfolding parentlessFrom
+returns c = so-far-done _ _ _ _ (omega arith) (omega arith) (c .before .loop .inv .1)
 
 pub are-parentless-spec : {M : Type 1} → statement M
 are-parentless-spec =

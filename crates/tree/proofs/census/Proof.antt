@@ -1,5 +1,5 @@
 -- Each way out is one of the definition's.
-use mathlib.Core.Path.{refl, ap, _∙_}
+use mathlib.Core.Path.{ap, _∙_}
 use native.Mathlib.Omega.{arith}
 use lib.ListN.{length}
 use Rattle.tree.proofs.CensusLaws.{alone, marked-descendants, counts-beyond, named-small, counts-null, counts-short, counts-all}

@@ -1,5 +1,4 @@
 -- The descendants are marked, and the range too if asked, before any place is stripped.
-use mathlib.Core.Path.{_≡_, refl, sym, _∙_}
 use Rattle.tree.proofs.StripLaws.{left-cut}
 use borrow.Author.Needs.{needs}
 use Rattle.tree.proofs.cut.Statement.{statement}

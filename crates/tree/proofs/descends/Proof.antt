@@ -1,5 +1,5 @@
 -- A place without a parent is below none; of any other the parent tells.
-use mathlib.Core.Path.{_≡_, refl, sym, _∙_}
+use mathlib.Core.Path.{sym, _∙_}
 use borrow.Author.Tests.{ltb-false}
 use Rattle.tree.proofs.MarkLaws.{told-before}
 use Rattle.tree.proofs.WalkLaws.{parent-small, rootless-below, below-inside, below-outside}

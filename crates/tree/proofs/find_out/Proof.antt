@@ -1,5 +1,5 @@
 -- A place that is known has its mark. Of any other the walk tells, and what it found is stored.
-use mathlib.Core.Path.{_≡_, refl, sym, _∙_}
+use mathlib.Core.Path.{_∙_}
 use Rattle.tree.proofs.MarkLaws.{told-known}
 use Rattle.tree.proofs.find_out.Statement.{statement}
 use Rattle.tree.proofs.find_out.Tie as tie

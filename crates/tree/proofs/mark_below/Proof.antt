@@ -1,6 +1,6 @@
 -- The places before the loop's number are marked; words of other spaces are passed over.
 use Prim.Native.Nat.{_-_, _%_, _≤_}
-use mathlib.Core.Path.{_≡_, refl, sym, _∙_}
+use mathlib.Core.Path.{_≡_, sym, _∙_}
 use native.Mathlib.Omega.{arith}
 use Rattle.words.specs.Sizes.{places}
 use Rattle.marks.specs.PlaceBits.{wordBits}

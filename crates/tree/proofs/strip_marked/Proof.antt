@@ -1,6 +1,6 @@
 -- The places below the loop's number, which is that of a marked place or past the last, are as stripping leaves them, and the others as they were.
 use Prim.Native.Nat.{_-_, _<_, _≤_}
-use mathlib.Core.Path.{_≡_, refl, sym, _∙_}
+use mathlib.Core.Path.{_≡_, sym, _∙_}
 use mathlib.Core.Bool.{true}
 use native.Mathlib.Omega.{arith}
 use Rattle.words.specs.Sizes.{places}

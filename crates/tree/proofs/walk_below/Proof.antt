@@ -1,6 +1,6 @@
 -- The places on the walk are all below the range, or none is. The measure is the depth, which falls on the way to a parent.
 use Prim.Native.Nat.{_<_}
-use mathlib.Core.Path.{_≡_, refl, sym, _∙_}
+use mathlib.Core.Path.{_≡_, refl, _∙_}
 use Rattle.words.specs.Sizes.{places}
 use Rattle.interface.specs.Places.{capAt}
 use Rattle.interface.specs.Effects.{below}
