@@ -1,5 +1,4 @@
 -- The laws that the functions' proofs cite.
 pub mod FoundLaws
-pub mod PlayLaws
 pub mod LineLaws
 pub mod PlayingLaws

@@ -1,27 +1,14 @@
--- Lines written into a buffer: one into a part that is as long as the longest line, that of a record, and the last ones.
-use Prim.Native.Nat.{ℕ, _+_, _-_, _≤_}
-use mathlib.Core.Path.{_≡_, refl, sym, ap, _∙_, subst}
-use mathlib.Core.List.{List, [], _∷_, _++_, append-assoc, append-nil}
-use native.Mathlib.Nat.{add-zero, zero-add}
-use native.Mathlib.Omega.{arith}
-use lib.ListN.{length, take, drop, length-drop, take-append-drop}
-use lib.Seq.{length-take-le, drop-append-le, drop-drop}
-use borrow.Author.Tests.{le-ltb}
-use borrow.Rule.Slice.PartMut.{putMid, same-len-mid}
-use Rattle.io.specs.Counts.{Counts}
-use Rattle.descriptor.specs.declared.Reply.{Reply}
-use Rattle.descriptor.specs.Replies.{statusOf, answerOf}
-use Rattle.interface.specs.Places.{Tables}
-use Rattle.interface.specs.Verdicts.{Call}
-use Rattle.interface.specs.Rules.{hypercallReply, hypercallTables}
-use Rattle.interface.specs.History.{hypercalls}
-use Rattle.interface.specs.Demand.{tablesAfter, tablesAfterAll}
-use Rattle.interface.specs.Journal.{recordedCall, done, ended, spelled, spelledLines, Beginning, empty, of-no-kind, cut-off, whole, beginning, linesFrom, stopLines}
-use Rattle.interface.specs.Journal.{Line as JournalLine}
+-- Lines written into a buffer: none, that of what stops the reading, and the last ones.
+use Prim.Native.Nat.{ℕ, _≤_}
+use mathlib.Core.Path.{_≡_, refl, sym, ap, _∙_}
+use mathlib.Core.List.{List, [], _∷_, _++_, append-nil}
+use native.Mathlib.Nat.{add-zero}
+use lib.ListN.{length, take, take-append-drop}
+use Rattle.interface.specs.Journal.{Line, ended, spelled, spelledLines, Beginning, empty, of-no-kind, cut-off, whole, beginning, stopLines}
 use Rattle.interface.proofs.Journal.JournalLaws.{spelled-append}
-use Rattle.journal.specs.declared.lines.Line.{Line}
-use Rattle.journal.specs.Texts.{lineOf, lineBytes, written, fitting, Wrote}
+use Rattle.journal.specs.Texts.{Wrote}
 use Rattle.journal.proofs.TextLaws.{wrote-then}
+use Rattle.recorded_calls.proofs.LineLaws.{wrote-same}
 use Rattle.playback.specs.declared.Found.{Found}
 use Rattle.playback.specs.Playing.{foundOf, foundIn, stopOf}
 
@@ -33,68 +20,6 @@ wrote-nothing out at inside =
       ends = sym (add-zero at);
       fits = inside;
     }
-
--- a text may be another that is the same
-wrote-same : {out after text other : List ℕ} {at end : ℕ} → text ≡ other → Wrote out at text after end → Wrote out at other after end
-wrote-same {out} {after} {at = at} {end = end} same wrote = subst (λ (t : List ℕ). Wrote out at t after end) same wrote
-
-module _ (out : List ℕ) (at : ℕ) (line : Line) (room : at + lineBytes ≤ length out) where
-  abbrev part : List ℕ
-  part = take (at + lineBytes - at) (drop at out)
-
-  part-size : at + lineBytes - at ≡ lineBytes
-  part-size = omega arith
-
-  long : length part ≡ lineBytes
-  long = rw part-size (length-take-le lineBytes (drop at out) (omega (arith, length-drop at out)))
-
-  line-fits : fitting part line ≡ spelled (lineOf line)
-  unfolding fitting
-  line-fits = rw (le-ltb (length part) lineBytes (omega (arith, long)))
-
-  pub line-added : (after : List ℕ) (size : ℕ) → length after ≡ length part → after ≡ written part 0 (fitting part line) → size ≡ length (fitting part line) → Counts size after →
-      Wrote out at (spelled (lineOf line)) (putMid at (at + lineBytes - at) out after) (at + size) × (at + size ≤ at + lineBytes)
-  line-added after size kept is-after is-size counts =
-      let text = spelled (lineOf line) in
-      let tail = drop (at + lineBytes - at) (drop at out) in
-      let ends : size ≡ length text = rw line-fits at is-size in
-      let short : length text ≤ length part = omega (arith, counts .0) in
-      let there : after ≡ text ++ drop (length text) part = rw (line-fits, zero-add) at is-after in
-      let rest : drop (length text) part ++ tail ≡ drop (at + length text) out =
-      sym (drop-append-le (length text) part tail short)
-      ∙ ap (drop (length text)) (take-append-drop (at + lineBytes - at) (drop at out))
-      ∙ drop-drop (length text) at out in
-      let whole = same-len-mid at (at + lineBytes - at) out after kept in (
-        record {
-          leaves = rw (there, append-assoc text (drop (length text) part) tail, rest) (sym (append-assoc (take at out) text (drop (at + length text) out)));
-          ends = ap (λ (k : ℕ). at + k) ends;
-          fits = omega (arith, long, counts .0);
-        },
-        omega (arith, long, counts .0),
-      )
-
--- the tables after one hypercall
-pub after-one : (here : Tables) (c : Call) → hypercallTables here c ≡ tablesAfterAll here (hypercalls c ∷ [])
-unfolding tablesAfterAll tablesAfter
-after-one here c = refl
-
--- the line of one hypercall
-one-line : (here : Tables) (index kind : ℕ) (c : Call) (status answer : ℕ) → kind ≡ c .number → status ≡ statusOf (hypercallReply here c) →
-    answer ≡ answerOf (hypercallReply here c) → spelled (done index kind status answer) ≡ spelledLines (linesFrom here index (c ∷ []))
-unfolding linesFrom spelledLines
-one-line here index kind c status answer is-kind is-status is-answer = rw (is-kind, is-status, is-answer) (sym (append-nil _))
-
-same-kind : (kind : ℕ) (body : List ℕ) → kind ≡ recordedCall kind body .number
-unfolding recordedCall
-same-kind kind body = refl
-
-pub line-played : (here : Tables) (index kind : ℕ) (body : List ℕ) {reply : Reply} {status answer : ℕ} {out after : List ℕ} {at end : ℕ} →
-    reply ≡ hypercallReply here (recordedCall kind body) → status ≡ statusOf reply → answer ≡ answerOf reply → Wrote out at (spelled (done index kind status answer)) after end →
-    Wrote out at (spelledLines (linesFrom here index (recordedCall kind body ∷ []))) after end
-line-played here index kind body {status = status} {answer = answer} is-reply is-status is-answer wrote =
-    wrote-same
-    (one-line here index kind (recordedCall kind body) status answer (same-kind kind body) (is-status ∙ ap statusOf is-reply) (is-answer ∙ ap answerOf is-reply))
-    wrote
 
 -- the line of what stops the reading, as the code finds it, is that of what the bytes begin with
 stop-lines : (b : Beginning) → stopOf (foundOf b) ≡ stopLines b
@@ -112,14 +37,14 @@ pub stop-none : (next told : Found) {out after : List ℕ} {at end : ℕ} → ne
 unfolding spelledLines
 stop-none next told is-told none wrote = wrote-same (sym (ap (λ (f : Found). spelledLines (stopOf f)) is-told ∙ ap spelledLines none)) wrote
 
-pub stop-one : (next told : Found) (line : JournalLine) {out after : List ℕ} {at end : ℕ} → next ≡ told → stopOf told ≡ line ∷ [] → Wrote out at (spelled line) after end →
+pub stop-one : (next told : Found) (line : Line) {out after : List ℕ} {at end : ℕ} → next ≡ told → stopOf told ≡ line ∷ [] → Wrote out at (spelled line) after end →
     Wrote out at (spelledLines (stopOf next)) after end
 unfolding spelledLines
 stop-one next told line is-told one wrote =
     wrote-same (sym (ap (λ (f : Found). spelledLines (stopOf f)) is-told ∙ ap spelledLines one ∙ append-nil (spelled line))) wrote
 
 -- the last lines
-pub last-written : (lines : List JournalLine) (count : ℕ) {out middle after : List ℕ} {at place end : ℕ} → at ≤ length out → Wrote out at (spelledLines lines) middle place →
+pub last-written : (lines : List Line) (count : ℕ) {out middle after : List ℕ} {at place end : ℕ} → at ≤ length out → Wrote out at (spelledLines lines) middle place →
     Wrote middle place (spelled (ended count)) after end → Wrote out at (spelledLines (lines ++ (ended count ∷ []))) after end
 unfolding spelledLines
 last-written lines count inside first second =

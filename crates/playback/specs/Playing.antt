@@ -6,9 +6,6 @@ use mathlib.Core.Bool.{Bool, true, false}
 use mathlib.Core.List.{List, [], _∷_}
 use lib.ListN.{length, take, drop}
 use Rattle.interface.specs.Places.{Tables, sized}
-use Rattle.interface.specs.Damage.{sound}
-use Rattle.interface.specs.Verdicts.{Call}
-use Rattle.interface.specs.History.{hypercalls}
 use Rattle.interface.specs.Demand.{LentOut, tablesAfterAll, fromBoot, historyOf}
 use Rattle.interface.specs.Journal.{Line, short, unknown, spelledLines, Beginning, empty, of-no-kind, cut-off, whole, beginning, contents, recorded, linesFrom, replay}
 use Rattle.journal.specs.Texts.{lineBytes, Wrote}
@@ -45,13 +42,6 @@ stopOf (Whole kind size) = []
 -- lines written in turn into a buffer of so many bytes from a place on had room: before each of them, the longest line would have fitted
 abbrev pub RoomForEach : List Line → ℕ → ℕ → Type 0
 RoomForEach lines at size = (k : ℕ) → k < length lines → at + length (spelledLines (take k lines)) + lineBytes ≤ size
-
--- a record's hypercall played on some tables, with its line, of an index, written into a buffer at a place: the tables are those after it, and still sound, and the text written
--- is that of the line
-pub record PlaysRecord (c : Call) (before : Tables) (index : ℕ) (out : List ℕ) (at : ℕ) (after : Tables) (outAfter : List ℕ) (end : ℕ) : Type 0 where
-  pub leaves : after ≡ tablesAfterAll before (hypercalls c ∷ [])
-  pub still-sound : sound after ≡ true
-  pub writes : Wrote out at (spelledLines (linesFrom before index (c ∷ []))) outAfter end
 
 -- bytes played from some tables and an index on, with their lines written into a buffer at a place: they are whole records, the tables are those after their hypercalls in turn,
 -- the next index comes after theirs, the text written is that of their lines, and each of these had room

@@ -6,17 +6,12 @@ ghost use mathlib.Core.List.{[], _∷_, _++_};
 ghost use lib.ListN.{length, take, drop};
 ghost use Rattle.interface.specs.Places.{tables};
 ghost use Rattle.interface.specs.Damage.{sound};
-ghost use Rattle.interface.specs.Outcomes.{answered};
-ghost use Rattle.interface.specs.Journal.{recordedCall, ended, spelled, spelledLines};
-ghost use Rattle.journal.specs.Texts.{lineOf, lineBytes, Wrote};
-ghost use Rattle.playback.specs.Playing.{foundIn, stopOf, PlaysRecord, Plays, Stops, ReplayedAs};
-use descriptor::Reply;
-use interface::numbers;
+ghost use Rattle.interface.specs.Journal.{ended, spelledLines};
+ghost use Rattle.journal.specs.Texts.{lineBytes, Wrote};
+ghost use Rattle.playback.specs.Playing.{foundIn, stopOf, Plays, Stops, ReplayedAs};
 use journal::lines;
 use journal::lines::Line;
 use journal::records;
-use service::CallWords;
-use words::sizes;
 
 // What begins at a position of a journal: nothing, a kind that is none, a record that is short, or a whole one with its kind and the bytes of its body.
 pub enum Found {
@@ -62,93 +57,6 @@ pub fn record_at(journal: &[u8], at: usize) -> Found
     Found::Whole(kind, size)
 }
 
-// Plays a record: its hypercall on two tables that are known to be sound, and stay so. A CALL's blocks are the record's.
-pub fn play(kind: u8, body: &[u8], places: &mut [u32], objects: &mut [u32]) -> Reply
-    requires { ⌜ sound (tables (now places) (now objects)) ≡ true ⌝ }
-    ensures { λ r. ⌜
-        record { reply = r; tables = tables (now (places .exit)) (now (objects .exit)) } ≡
-        answered (tables (now (places .entry)) (now (objects .entry))) (recordedCall kind (now (body .entry))) ⌝ }
-    ensures { λ r. ⌜ sound (tables (now (places .exit)) (now (objects .exit))) ≡ true ⌝ }
-{
-    let mut source = [0u32; sizes::BLOCK_WORDS];
-    let mut target = [0u32; sizes::BLOCK_WORDS];
-    let caller = records::body_word(body, 0);
-    let first = records::body_word(body, 1);
-    let second = records::body_word(body, 2);
-    let third = records::body_word(body, 3);
-    let fourth = records::body_word(body, 4);
-    let fifth = records::body_word(body, 5);
-    let sixth = records::body_word(body, 6);
-    let words = CallWords {
-        first,
-        second,
-        third,
-        fourth,
-        fifth,
-        sixth,
-    };
-    if kind as u32 == numbers::CALL {
-        records::source(body, &mut source);
-        records::target(body, &mut target);
-        return service::serve(
-            kind as u32,
-            caller,
-            words,
-            places,
-            objects,
-            &source,
-            &mut target,
-        );
-    }
-    service::serve(
-        kind as u32,
-        caller,
-        words,
-        places,
-        objects,
-        &source[0..0],
-        &mut target[0..0],
-    )
-}
-
-// Writes a line into a buffer at a place. Answers where it ends.
-fn add_line(line: Line, out: &mut [u8], at: usize) -> usize
-    requires { ⌜ at + lineBytes ≤ length (now out) ⌝ }
-    ensures { λ r. ⌜ Wrote (now (out .entry)) at (spelled (lineOf line)) (now (out .exit)) r ⌝ }
-    ensures { λ r. ⌜ r ≤ at + lineBytes ⌝ }
-{
-    let end = at + lines::LINE_BYTES;
-    at + lines::spell(line, &mut out[at..end])
-}
-
-// Plays a record, and writes its line into a buffer at a place. Answers where the line ends.
-fn play_record(
-    index: u64,
-    kind: u8,
-    body: &[u8],
-    places: &mut [u32],
-    objects: &mut [u32],
-    out: &mut [u8],
-    at: usize,
-) -> usize
-    requires { ⌜ sound (tables (now places) (now objects)) ≡ true ⌝ }
-    requires { ⌜ at + lineBytes ≤ length (now out) ⌝ }
-    ensures { λ r. ⌜
-        PlaysRecord (recordedCall kind (now (body .entry))) (tables (now (places .entry)) (now (objects .entry))) index (now (out .entry)) at
-        (tables (now (places .exit)) (now (objects .exit))) (now (out .exit)) r ⌝ }
-{
-    let reply = play(kind, body, places, objects);
-    let status = reply.status();
-    let answer = reply.answer();
-    let line = Line::Done {
-        index,
-        kind,
-        status,
-        answer,
-    };
-    add_line(line, out, at)
-}
-
 // Plays the whole records at the front of some bytes, from an index on, and writes their lines into a buffer from a place on, as long as it has room for the longest line.
 pub fn play_records(
     input: &[u8],
@@ -187,7 +95,7 @@ pub fn play_records(
         }
         let start = at + 1;
         let end = start + size;
-        written = play_record(
+        written = recorded_calls::play_record(
             index,
             kind,
             &input[start..end],
@@ -208,8 +116,8 @@ fn add_stop_line(next: Found, out: &mut [u8], at: usize) -> usize
     ensures { λ r. ⌜ r ≤ at + lineBytes ⌝ }
 {
     match next {
-        Found::Short => add_line(Line::Cut, out, at),
-        Found::Unknown(kind) => add_line(Line::Bad(kind), out, at),
+        Found::Short => recorded_calls::add_line(Line::Cut, out, at),
+        Found::Unknown(kind) => recorded_calls::add_line(Line::Bad(kind), out, at),
         Found::Nothing => at,
         Found::Whole(_, _) => at,
     }
@@ -222,7 +130,7 @@ pub fn add_last_lines(next: Found, records: u64, out: &mut [u8], at: usize) -> u
     ensures { λ r. ⌜ r ≤ length (now (out .exit)) ⌝ }
 {
     let end = add_stop_line(next, out, at);
-    add_line(Line::End(records), out, end)
+    recorded_calls::add_line(Line::End(records), out, end)
 }
 
 // Replays a whole journal from boot on: plays its whole records in turn, up to the first that is short or of no kind, and writes its lines at the front of a buffer.

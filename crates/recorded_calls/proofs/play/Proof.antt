@@ -2,9 +2,9 @@
 use mathlib.Core.Path.{refl}
 use denote.Ref.{now}
 use borrow.Author.Needs.{needs}
-use Rattle.playback.proofs.PlayLaws.{source-length, target-length, Read, plays-call, plays-other}
-use Rattle.playback.proofs.play.Statement.{statement}
-use Rattle.playback.proofs.play.Tie as tie
+use Rattle.recorded_calls.proofs.PlayLaws.{source-length, target-length, Read, plays-call, plays-other}
+use Rattle.recorded_calls.proofs.play.Statement.{statement}
+use Rattle.recorded_calls.proofs.play.Tie as tie
 
 body-word-requires : tie.Need-body-word-requires
 body-word-requires c κs = search needs
@@ -75,7 +75,7 @@ returns c =
     let chosen = c .before .before .before .before .before .before .before .before .before .before .before .before .before .before in
     let is-source = c .before .before .before .before .before .before .before .before .before .before .before .before .source2 .ensures in
     let is-target = c .before .before .before .before .before .before .before .before .before .before .target2 .ensures in
-    (plays-call (words (chosen .before)) _ (served .0) (chosen .if1 .taken) is-source is-target, served .1)
+    (plays-call (words (chosen .before)) _ (served .0) (chosen .if1 .taken) is-source is-target, search needs)
 
 sub-serve : tie.Need-sub-serve
 sub-serve c = search needs
@@ -108,7 +108,7 @@ returns-2 : tie.Need-returns-2
 returns-2 c =
     let served = c .before .before .before .before .before .serve2 .ensures in
     let chosen = c .before .before .before .before .before .before .before .before .before .before .before in
-    (plays-other (words (chosen .before)) _ (served .0) (chosen .if1 .left) refl refl, served .1)
+    (plays-other (words (chosen .before)) _ (served .0) (chosen .if1 .left) refl refl, search needs)
 
 pub play-spec : {M : Type 1} → statement M
 play-spec =

@@ -1,9 +1,9 @@
 -- A line spelled at the start of a part of the buffer that is as long as the longest line is written there.
 use borrow.Author.Needs.{needs}
 use denote.Ref.{now}
-use Rattle.playback.proofs.LineLaws.{line-added}
-use Rattle.playback.proofs.add_line.Statement.{statement}
-use Rattle.playback.proofs.add_line.Tie as tie
+use Rattle.recorded_calls.proofs.LineLaws.{line-added}
+use Rattle.recorded_calls.proofs.add_line.Statement.{statement}
+use Rattle.recorded_calls.proofs.add_line.Tie as tie
 
 add-end : tie.Need-add-end
 add-end c = search needs

@@ -5,9 +5,9 @@ use denote.Ref.{now}
 use Rattle.interface.specs.Places.{tables}
 use Rattle.interface.specs.Outcomes.{Answered}
 use Rattle.interface.specs.Journal.{recordedCall}
-use Rattle.playback.proofs.LineLaws.{after-one, line-played}
-use Rattle.playback.proofs.play_record.Statement.{statement}
-use Rattle.playback.proofs.play_record.Tie as tie
+use Rattle.recorded_calls.proofs.LineLaws.{after-one, line-played}
+use Rattle.recorded_calls.proofs.play_record.Statement.{statement}
+use Rattle.recorded_calls.proofs.play_record.Tie as tie
 
 play-requires : tie.Need-play-requires
 play-requires c κs = search needs

@@ -1,0 +1,2 @@
+-- What the contracts of one record cite.
+pub mod OneRecord
