@@ -2,8 +2,8 @@
 use borrow.Author.Needs.{needs}
 use Prim.Native.Nat.{_≤_, _-_}
 use lib.ListN.{length}
-use Rattle.spectrometer.proofs.name_places.Statement.{statement}
-use Rattle.spectrometer.proofs.name_places.Tie as tie
+use Rattle.incident.proofs.name_places.Statement.{statement}
+use Rattle.incident.proofs.name_places.Tie as tie
 
 abbrev Inv-loop : tie.InvT-loop
 Inv-loop list count i₀ t4 t5 i = i ≤ length list

@@ -2,20 +2,14 @@
 use mathlib.Core.Path.{sym, _∙_}
 use Rattle.descriptor.proofs.DescriptorLaws.{good-proper}
 use borrow.Author.Needs.{needs}
-use Rattle.printing.proofs.say_found.Statement.{statement}
-use Rattle.printing.proofs.say_found.Tie as tie
-
-slice-aggregate-say : tie.Need-slice-aggregate-say
-slice-aggregate-say c = search needs
-
-say-requires : tie.Need-say-requires
-say-requires c κs = search needs
+use Rattle.incident.proofs.say_found.Statement.{statement}
+use Rattle.incident.proofs.say_found.Tie as tie
 
 enum-known-reply : tie.Need-enum-known-reply
 enum-known-reply c = search needs
 
-say-outcome-requires : tie.Need-say-outcome-requires
-say-outcome-requires c κs = search needs
+say-done-requires : tie.Need-say-done-requires
+say-done-requires c κs = search needs
 
 returns : tie.Need-returns
 returns c = search needs
@@ -29,20 +23,20 @@ read-requires c κs = search needs
 enum-told : tie.Need-enum-told
 enum-told c = search needs
 
+slice-aggregate-say : tie.Need-slice-aggregate-say
+slice-aggregate-say c = search needs
+
+say-requires : tie.Need-say-requires
+say-requires c κs = search needs
+
+enum-told-2 : tie.Need-enum-told-2
+enum-told-2 c = search needs
+
 slice-aggregate-say-2 : tie.Need-slice-aggregate-say-2
 slice-aggregate-say-2 c = search needs
 
 say-requires-2 : tie.Need-say-requires-2
 say-requires-2 c κs = search needs
-
-enum-told-2 : tie.Need-enum-told-2
-enum-told-2 c = search needs
-
-slice-aggregate-say-3 : tie.Need-slice-aggregate-say-3
-slice-aggregate-say-3 c = search needs
-
-say-requires-3 : tie.Need-say-requires-3
-say-requires-3 c κs = search needs
 
 enum-known-found : tie.Need-enum-known-found
 enum-known-found c = search needs
@@ -63,19 +57,17 @@ pub say-found-spec : {M : Type 1} → statement M
 say-found-spec =
     tie.close
     (tie.spec
-    slice-aggregate-say
-    say-requires
     enum-known-reply
-    say-outcome-requires
+    say-done-requires
     returns
     from-word-requires
     read-requires
     enum-told
+    slice-aggregate-say
+    say-requires
+    enum-told-2
     slice-aggregate-say-2
     say-requires-2
-    enum-told-2
-    slice-aggregate-say-3
-    say-requires-3
     enum-known-found
     say-range-requires
     returns-2
