@@ -14,7 +14,7 @@ use Rattle.interface.proofs.Basics.PutLaws.{put-same, put-other}
 use Rattle.interface.proofs.History.NoteLaws.{fills-source, fills-null}
 use Rattle.interface.proofs.Sound.Soundness.{Sound}
 use Rattle.interface.proofs.Sound.PlaceFacts.{null-cap, Lineage, no-parent, child, live-facts}
-use Rattle.tree.proofs.LinkLaws.{sound-linked}
+use Rattle.descent.proofs.LinkLaws.{sound-linked}
 use Rattle.delegation.specs.Delegating.{LiveLinks}
 
 -- a live place's parent is live

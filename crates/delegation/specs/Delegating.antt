@@ -7,7 +7,7 @@ use Rattle.words.specs.Sizes.{places, spaceOf}
 use Rattle.interface.specs.Places.{Cap, live, capAt, capTable, placesIn}
 use Rattle.interface.specs.Effects.{Effect, run, filled}
 use Rattle.places.specs.Table.{Given}
-use Rattle.tree.specs.Walks.{Linked}
+use Rattle.descent.specs.Walks.{Linked}
 
 -- links that delegations keep: a walk can follow them, and each parent is live
 pub record LiveLinks (caps : ℕ → Cap) : Type 0 where

@@ -18,8 +18,8 @@ use Rattle.interface.proofs.Tables.TableLaws.{places-long, sound-sized, sound-s
 use Rattle.interface.proofs.Consequences.ConsequenceLaws.{judged-once}
 use Rattle.interface.proofs.History.DemandLaws.{goes-on, shows-heirs}
 use Rattle.interface.proofs.Sound.Soundness.{sound-facts}
-use Rattle.tree.specs.Walks.{Linked}
-use Rattle.tree.proofs.LinkLaws.{sound-linked}
+use Rattle.descent.specs.Walks.{Linked}
+use Rattle.descent.proofs.LinkLaws.{sound-linked}
 use Rattle.service.specs.Serving.{Serves}
 use Rattle.service.proofs.AdmissionLaws.{refused-outcome}
 

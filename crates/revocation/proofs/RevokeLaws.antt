@@ -19,7 +19,7 @@ use Rattle.interface.specs.Effects.{cut, cutCaps, act, run}
 use Rattle.interface.specs.Verdicts.{Call, refuse, grant, callerDomain}
 use Rattle.interface.specs.Rules.{Runs}
 use Rattle.interface.specs.Revoke.{revoke}
-use Rattle.tree.specs.Walks.{InSpace}
+use Rattle.descent.specs.Walks.{InSpace}
 use Rattle.capabilities.specs.Callers.{Called}
 use Rattle.capabilities.proofs.CallerLaws.{places-kept, objects-kept, refused-runs, granted-runs}
 

@@ -9,7 +9,7 @@ ghost use Rattle.descriptor.specs.Descriptors.{null, Proper};
 ghost use Rattle.interface.specs.Places.{capAt, placesIn};
 ghost use Rattle.interface.specs.Message.{receivedWord, sourceDomain, delegateItem, transfer};
 ghost use Rattle.places.specs.Table.{Sized};
-ghost use Rattle.tree.specs.Walks.{Linked};
+ghost use Rattle.descent.specs.Walks.{Linked};
 ghost use Rattle.blocks.specs.Fitting.{Blocks};
 ghost use Rattle.windows.specs.Matching.{Matched};
 ghost use Rattle.delegation.specs.Delegating.{LiveLinks};

@@ -31,8 +31,8 @@ use Rattle.interface.specs.Message.{nearest, common, inside, senderPlace, ances
 use Rattle.interface.proofs.Basics.BoolLaws.{cases, not-both, and-left, and-right, both, each-of-four}
 use Rattle.interface.proofs.Basics.BelowLaws.{all-below-at, all-below, below-suc}
 use Rattle.places.specs.Table.{Sized}
-use Rattle.tree.specs.Walks.{Linked, firstAmong}
-use Rattle.tree.proofs.LinkLaws.{nearest-first-among}
+use Rattle.descent.specs.Walks.{Linked, firstAmong}
+use Rattle.descent.proofs.LinkLaws.{nearest-first-among}
 use Rattle.windows.specs.Matching.{Matched}
 use Rattle.translation.specs.Translating.{liesThere}
 

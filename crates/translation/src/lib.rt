@@ -10,7 +10,7 @@ ghost use Rattle.interface.specs.Basics.{if_then_else_};
 ghost use Rattle.interface.specs.Places.{capAt, placesIn};
 ghost use Rattle.interface.specs.Message.{nearest, senderPlace, translateItem};
 ghost use Rattle.places.specs.Table.{Sized};
-ghost use Rattle.tree.specs.Walks.{Linked};
+ghost use Rattle.descent.specs.Walks.{Linked};
 ghost use Rattle.windows.specs.Matching.{Matched};
 ghost use Rattle.translation.specs.Translating.{liesThere};
 use descriptor::FoundPlace;
@@ -36,7 +36,7 @@ fn nearest_in(table: &[u32], domain: u32, place: Place) -> FoundPlace
     requires { ⌜ Sized (now table) × Linked (capAt (now table)) × (domain < domains) × (place .0 < places) ⌝ }
     ensures { λ r. ⌜ r ≡ linked (nearest (capAt (now (table .entry))) domain (place .0)) ⌝ }
 {
-    Place::linked(tree::ancestor(table, place, Place::first_of(domain), sizes::STRIDE))
+    Place::linked(descent::ancestor(table, place, Place::first_of(domain), sizes::STRIDE))
 }
 
 // R, where all the ancestors' range begins: the selector found at offset 0.

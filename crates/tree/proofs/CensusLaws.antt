@@ -20,7 +20,7 @@ use Rattle.interface.specs.Census.{descendants, counted}
 use Rattle.interface.proofs.Basics.BoolLaws.{cases}
 use Rattle.interface.proofs.Basics.GatherLaws.{gather-same}
 use Rattle.marks.specs.PlaceBits.{bitAt, markedPlaces}
-use Rattle.tree.specs.Walks.{InSpace, Marked}
+use Rattle.descent.specs.Walks.{InSpace, Marked}
 
 -- the marked places are the descendants of the place that the marks were found for
 pub marked-descendants : (caps : ℕ → Cap) (place : ℕ) {marks : List ℕ} → Marked (below caps place 1) marks → markedPlaces marks ≡ descendants caps place

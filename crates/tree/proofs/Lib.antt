@@ -1,7 +1,3 @@
--- What is proved of walks along parent links, of marks, of revocation and of the census.
-pub mod WalkLaws
-pub mod LinkLaws
-pub mod MarkLaws
-pub mod UnmarkedLaws
+-- What is proved of revocation and of the census.
 pub mod StripLaws
 pub mod CensusLaws

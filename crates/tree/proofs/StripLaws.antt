@@ -19,7 +19,8 @@ use Rattle.interface.proofs.History.CutLaws.{stripped-none, stripped-some}
 use Rattle.marks.specs.PlaceBits.{bitAt, RangeToo, NextMarked}
 use Rattle.places.specs.Table.{Sized}
 use Rattle.places.proofs.CapTableLaws.{length-cap-table, cap-table-same, cap-at-table-below}
-use Rattle.tree.specs.Walks.{Marked, strippedWhere}
+use Rattle.descent.specs.Walks.{Marked}
+use Rattle.tree.specs.Stripping.{strippedWhere}
 
 -- what is stored at a place is what stripping leaves of it
 module _ (table : List ℕ) (place mask : ℕ) {left : ℕ} {cap : Cap} (is-cap : cap ≡ capAt table place) (is-left : left ≡ revoked (cap .permissions) mask) where

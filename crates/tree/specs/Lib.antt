@@ -1,2 +1,2 @@
--- What the contracts of walks, revocation and the census cite.
-pub mod Walks
+-- What the contracts of revocation cite.
+pub mod Stripping

@@ -5,7 +5,7 @@ use lib.Pow.{pow-pos}
 use borrow.Author.Needs.{needs}
 use Rattle.descriptor.specs.Descriptors.{Proper, reading}
 use Rattle.descriptor.proofs.DescriptorLaws.{reading-kept, good-proper, proper-order}
-use Rattle.tree.proofs.LinkLaws.{sound-linked}
+use Rattle.descent.proofs.LinkLaws.{sound-linked}
 use Rattle.capabilities.proofs.CallerLaws.{sized-places, called-sound}
 use Rattle.revocation.proofs.RevokeLaws.{Aimed, aims, range-in-space, self-refused, malformed-refused, null-revokes, range-revokes}
 use Rattle.revocation.proofs.revoke.Statement.{statement}

@@ -4,7 +4,7 @@ use denote.Ref.{now}
 use borrow.Author.Needs.{needs}
 use Rattle.descriptor.specs.Numbers.{linked}
 use Rattle.interface.specs.Places.{capAt}
-use Rattle.tree.proofs.LinkLaws.{nearest-first-among}
+use Rattle.descent.proofs.LinkLaws.{nearest-first-among}
 use Rattle.translation.proofs.nearest_in.Statement.{statement}
 use Rattle.translation.proofs.nearest_in.Tie as tie
 

@@ -4,12 +4,12 @@ use mathlib.Core.Path.{_≡_, sym, _∙_}
 use native.Mathlib.Omega.{arith}
 use Rattle.words.specs.Sizes.{places}
 use Rattle.marks.specs.PlaceBits.{wordBits}
-use Rattle.tree.specs.Walks.{Marking}
-use Rattle.tree.proofs.MarkLaws.{begun, passed, all-told, marking-at, word-space}
-use Rattle.tree.proofs.UnmarkedLaws.{not-below}
+use Rattle.descent.specs.Walks.{Marking}
+use Rattle.descent.proofs.MarkLaws.{begun, passed, all-told, marking-at, word-space}
+use Rattle.descent.proofs.UnmarkedLaws.{not-below}
 use borrow.Author.Needs.{needs}
-use Rattle.tree.proofs.mark_below.Statement.{statement}
-use Rattle.tree.proofs.mark_below.Tie as tie
+use Rattle.descent.proofs.mark_below.Statement.{statement}
+use Rattle.descent.proofs.mark_below.Tie as tie
 
 abbrev Inv-loop : tie.InvT-loop
 Inv-loop table first size marked₀ space known₀ walked₀ marked known walked =

@@ -14,7 +14,7 @@ use Rattle.interface.specs.Message.{firstIn, nearest}
 use Rattle.interface.proofs.Basics.BoolLaws.{cases, and-left, and-right, both, same-test}
 use Rattle.interface.proofs.Sound.Soundness.{Sound}
 use Rattle.interface.proofs.Sound.PlaceFacts.{null-cap, ChildOf, Lineage, no-parent, child, live-facts}
-use Rattle.tree.specs.Walks.{Linked, firstAmong}
+use Rattle.descent.specs.Walks.{Linked, firstAmong}
 
 module _ (s : State) (k : Sound s) (p : ℕ) (l : p < places) where
   -- a place has a parent one less deep, or none and depth 0

@@ -4,12 +4,12 @@ use mathlib.Core.Path.{_≡_, sym}
 use native.Mathlib.Nat.{add-zero, add-assoc}
 use native.Mathlib.Omega.{arith}
 use Rattle.marks.specs.PlaceBits.{wordBits}
-use Rattle.tree.specs.Walks.{Marking}
-use Rattle.tree.proofs.MarkLaws.{further, passed, marking-at}
-use Rattle.tree.proofs.UnmarkedLaws.{parentless-below}
+use Rattle.descent.specs.Walks.{Marking}
+use Rattle.descent.proofs.MarkLaws.{further, passed, marking-at}
+use Rattle.descent.proofs.UnmarkedLaws.{parentless-below}
 use borrow.Author.Needs.{needs}
-use Rattle.tree.proofs.mark_word.Statement.{statement}
-use Rattle.tree.proofs.mark_word.Tie as tie
+use Rattle.descent.proofs.mark_word.Statement.{statement}
+use Rattle.descent.proofs.mark_word.Tie as tie
 
 abbrev Inv-loop : tie.InvT-loop
 Inv-loop table marked₀ known₀ from first size offset₀ marked known offset =

@@ -4,11 +4,11 @@ use mathlib.Core.Path.{_≡_, refl, _∙_}
 use Rattle.words.specs.Sizes.{places}
 use Rattle.interface.specs.Places.{capAt}
 use Rattle.interface.specs.Effects.{below}
-use Rattle.tree.proofs.MarkLaws.{told-either}
-use Rattle.tree.proofs.WalkLaws.{parent-small, walk-shorter, rootless-below, below-inside, below-outside}
+use Rattle.descent.proofs.MarkLaws.{told-either}
+use Rattle.descent.proofs.WalkLaws.{parent-small, walk-shorter, rootless-below, below-inside, below-outside}
 use borrow.Author.Needs.{needs}
-use Rattle.tree.proofs.walk_below.Statement.{statement}
-use Rattle.tree.proofs.walk_below.Tie as tie
+use Rattle.descent.proofs.walk_below.Statement.{statement}
+use Rattle.descent.proofs.walk_below.Tie as tie
 
 abbrev Inv-loop : tie.InvT-loop
 Inv-loop table marked known walked first size at₀ at =

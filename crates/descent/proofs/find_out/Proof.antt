@@ -1,8 +1,8 @@
 -- A place that is known has its mark. Of any other the walk tells, and what it found is stored.
 use mathlib.Core.Path.{_∙_}
-use Rattle.tree.proofs.MarkLaws.{told-known}
-use Rattle.tree.proofs.find_out.Statement.{statement}
-use Rattle.tree.proofs.find_out.Tie as tie
+use Rattle.descent.proofs.MarkLaws.{told-known}
+use Rattle.descent.proofs.find_out.Statement.{statement}
+use Rattle.descent.proofs.find_out.Tie as tie
 
 is-set-requires : tie.Need-is-set-requires
 is-set-requires c κs =

@@ -7,12 +7,12 @@ use Rattle.descriptor.proofs.Place.is_among.Reads as is-among-reads
 use Rattle.descriptor.proofs.Place.linked.Reads as linked-reads
 use Rattle.interface.specs.Places.{capAt}
 use Rattle.places.proofs.load.Reads as load-reads
-use Rattle.tree.proofs.WalkLaws.{parent-small, walk-shorter, walk-ends, walk-finds, walk-passes}
-use Rattle.tree.proofs.ancestor.Reads as ancestor
-use Rattle.tree.proofs.ancestor.Kinds as ancestor-kinds
-use Rattle.tree.proofs.+ancestor.Lts-ancestor as ancestor-lts
-use Rattle.tree.proofs.+ancestor.{statement}
-use Rattle.tree.proofs.+ancestor.Tie.{close}
+use Rattle.descent.proofs.WalkLaws.{parent-small, walk-shorter, walk-ends, walk-finds, walk-passes}
+use Rattle.descent.proofs.ancestor.Reads as ancestor
+use Rattle.descent.proofs.ancestor.Kinds as ancestor-kinds
+use Rattle.descent.proofs.+ancestor.Lts-ancestor as ancestor-lts
+use Rattle.descent.proofs.+ancestor.{statement}
+use Rattle.descent.proofs.+ancestor.Tie.{close}
 
 abbrev μ-ancestor : Measures 1 ancestor-kinds.ps ℕ
 μ-ancestor κs a = capAt (a .0 .now) (a .1 .0 .0) .depth

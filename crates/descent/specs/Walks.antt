@@ -8,7 +8,7 @@ use mathlib.Core.List.{List, [], _∷_}
 use Rattle.words.specs.Sizes.{places, spaceOf}
 use Rattle.interface.specs.Basics.{if_then_else_, allBelow}
 use Rattle.interface.specs.Places.{Cap, capAt}
-use Rattle.interface.specs.Effects.{among, below, stripped}
+use Rattle.interface.specs.Effects.{among, below}
 use Rattle.marks.specs.PlaceBits.{markWords, bitAt}
 use Rattle.places.specs.Table.{Sized}
 
@@ -47,7 +47,3 @@ pub record Marking (table : List ℕ) (first size walked : ℕ) (known marks : L
   pub all-marks : length marks ≡ markWords
   pub before : (place : ℕ) → place < walked → bitAt marks place ≡ below (capAt table) first size place
   pub later : (place : ℕ) → walked ≤ place → bitAt marks place ≡ (bitAt known place && below (capAt table) first size place)
-
--- a mask's permissions removed where a test says so
-unfoldable pub strippedWhere : (ℕ → Bool) → ℕ → (ℕ → Cap) → (ℕ → Cap)
-strippedWhere test mask caps place = if test place then stripped mask (caps place) else caps place

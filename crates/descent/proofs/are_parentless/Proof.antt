@@ -6,9 +6,9 @@ use borrow.Author.Needs.{needs}
 use Rattle.interface.specs.Places.{capAt}
 use Rattle.interface.proofs.Basics.LoopLaws.{so-far-none, so-far-more, so-far-done}
 use Rattle.marks.specs.PlaceBits.{wordBits}
-use Rattle.tree.specs.Walks.{parentlessFrom}
-use Rattle.tree.proofs.are_parentless.Statement.{statement}
-use Rattle.tree.proofs.are_parentless.Tie as tie
+use Rattle.descent.specs.Walks.{parentlessFrom}
+use Rattle.descent.proofs.are_parentless.Statement.{statement}
+use Rattle.descent.proofs.are_parentless.Tie as tie
 
 abbrev Inv-loop : tie.InvT-loop
 Inv-loop table from parentless₀ offset₀ parentless offset = (offset ≤ wordBits) × (parentless ≡ parentlessFrom (capAt table) (from .0) offset)

@@ -17,7 +17,7 @@ use Rattle.interface.specs.Places.{Cap}
 use Rattle.interface.specs.Effects.{ancestors, among, below}
 use Rattle.interface.proofs.Basics.BoolLaws.{cases}
 use Rattle.interface.proofs.Sound.CutSound.{ancestors-child, ancestors-none}
-use Rattle.tree.specs.Walks.{Linked, firstAmong}
+use Rattle.descent.specs.Walks.{Linked, firstAmong}
 
 -- what a place holds, and the place that its parent word leads to
 module _ {caps : ℕ → Cap} {place : ℕ} {cap : Cap} {found : FoundPlace} (links : Linked caps) (small : place < places) (is-cap : cap ≡ caps place)

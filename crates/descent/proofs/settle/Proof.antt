@@ -5,12 +5,12 @@ use Rattle.words.specs.Sizes.{places}
 use Rattle.interface.specs.Places.{capAt}
 use Rattle.interface.specs.Effects.{below}
 use Rattle.interface.proofs.Basics.BoolLaws.{or-none-left}
-use Rattle.tree.specs.Walks.{Marking}
-use Rattle.tree.proofs.MarkLaws.{settled}
-use Rattle.tree.proofs.WalkLaws.{parent-small, walk-shorter, below-outside}
+use Rattle.descent.specs.Walks.{Marking}
+use Rattle.descent.proofs.MarkLaws.{settled}
+use Rattle.descent.proofs.WalkLaws.{parent-small, walk-shorter, below-outside}
 use borrow.Author.Needs.{needs}
-use Rattle.tree.proofs.settle.Statement.{statement}
-use Rattle.tree.proofs.settle.Tie as tie
+use Rattle.descent.proofs.settle.Statement.{statement}
+use Rattle.descent.proofs.settle.Tie as tie
 
 abbrev Inv-loop : tie.InvT-loop
 Inv-loop table marked₀ known₀ walked first size found at₀ marked known at =

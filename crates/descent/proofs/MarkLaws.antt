@@ -15,7 +15,7 @@ use Rattle.interface.specs.Effects.{below}
 use Rattle.interface.proofs.Basics.BoolLaws.{cases, not-both}
 use Rattle.marks.specs.PlaceBits.{wordBits, markWords, bitAt, SetIf}
 use Rattle.places.specs.Table.{Sized}
-use Rattle.tree.specs.Walks.{Linked, Marked, Marking}
+use Rattle.descent.specs.Walks.{Linked, Marked, Marking}
 
 -- what a place that is set adds where a test is told: `here` says whether it is the place, `known` whether its answer was known before
 now-known : (here found known test : Bool) → (here ≡ true → found ≡ test) → ((found && here) || (known && test)) ≡ ((here || known) && test)

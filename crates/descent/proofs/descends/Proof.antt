@@ -1,11 +1,11 @@
 -- A place without a parent is below none; of any other the parent tells.
 use mathlib.Core.Path.{sym, _∙_}
 use borrow.Author.Tests.{ltb-false}
-use Rattle.tree.proofs.MarkLaws.{told-before}
-use Rattle.tree.proofs.WalkLaws.{parent-small, rootless-below, below-inside, below-outside}
+use Rattle.descent.proofs.MarkLaws.{told-before}
+use Rattle.descent.proofs.WalkLaws.{parent-small, rootless-below, below-inside, below-outside}
 use borrow.Author.Needs.{needs}
-use Rattle.tree.proofs.descends.Statement.{statement}
-use Rattle.tree.proofs.descends.Tie as tie
+use Rattle.descent.proofs.descends.Statement.{statement}
+use Rattle.descent.proofs.descends.Tie as tie
 
 load-requires : tie.Need-load-requires
 load-requires c κs =

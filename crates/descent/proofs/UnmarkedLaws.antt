@@ -13,7 +13,7 @@ use Rattle.interface.proofs.Basics.BoolLaws.{cases, and-left, and-right}
 use Rattle.interface.proofs.Basics.BelowLaws.{all-below-at}
 use Rattle.interface.proofs.Sound.CutSound.{ancestors-child, ancestors-none}
 use Rattle.marks.specs.PlaceBits.{wordBits}
-use Rattle.tree.specs.Walks.{Linked, InSpace, parentlessFrom}
+use Rattle.descent.specs.Walks.{Linked, InSpace, parentlessFrom}
 
 module _ (caps : ℕ → Cap) (linked : Linked caps) {first size : ℕ} (range : InSpace first size) where
   not-among : (p : ℕ) → (spaceOf p ≡ spaceOf first → ⊥) → among first size p ≡ false
