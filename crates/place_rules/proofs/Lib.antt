@@ -1,5 +1,3 @@
 -- The laws that the functions' proofs and the crates above cite.
 pub mod PlaceTests
-pub mod StretchLaws
-pub mod HypervisorLaws
-pub mod QuickLaws
+pub mod BlankLaws

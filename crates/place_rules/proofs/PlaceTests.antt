@@ -1,28 +1,24 @@
 -- The rules of places as the code tests them: what each definition gives on each way out of the function that tests it.
-use Prim.Native.Nat.{ℕ, _+_, _-_, _*_, _%_, _^_, _≤_, _<_, _∣_}
-use mathlib.Core.Path.{_≡_, refl, sym, ap, _∙_}
+use Prim.Native.Nat.{ℕ, _+_, _-_, _*_, _%_, _^_, _≤_, _<_}
+use mathlib.Core.Path.{_≡_, sym, ap, _∙_}
 use mathlib.Core.Bool.{Bool, true, false, not, _&&_, _||_, and-false}
-use mathlib.Core.List.{List}
-use native.Mathlib.Nat.{dvd-of-mod-eq-zero}
 use native.Mathlib.Omega.{arith}
 use lib.Dec.{eqb, leb, ltb}
 use borrow.Author.Tests.{ltb-true, ltb-false, leb-true, leb-false, lt-ltb, le-ltb, le-leb, lt-leb, eqb-true, eqb-false, eq-eqb, ne-eqb, not-false}
 use Rattle.words.specs.Sizes.{memory, io, object, spaces, pageOrder, selectors, start, stride, placeOf, domainOf, spaceOf, places, records, greatestDepth}
 use Rattle.words.specs.Permissions.{within}
-use Rattle.words.proofs.PlaceLaws.{domain-back, space-back, selector-back, made-so, selector-small, run-domain, run-space}
+use Rattle.words.proofs.PlaceLaws.{space-back, made-so, selector-small}
 use Rattle.descriptor.specs.declared.Place.{Place}
 use Rattle.descriptor.specs.declared.FoundPlace.{FoundPlace}
 use Rattle.descriptor.specs.declared.FoundPlace.the-variants.{At, Nowhere}
 use Rattle.descriptor.specs.Numbers.{linked}
 use Rattle.descriptor.proofs.DescriptorLaws.{linked-out, linked-inside}
-use Rattle.interface.specs.Places.{Cap, State, Tables, live, nothing, parentless, free, SM, objectAt, shown, kindOf, greatestOf, greatest}
-use Rattle.interface.specs.Boot.{hypervisor, cpus, rootPd, bootRecord, hypervisorCap, bootCap}
-use Rattle.interface.specs.Damage.{between1, sameCap, fixed-place, hasPd, null-place, isResource, live-place, shallow, parentFits, lineageKeeps}
+use Rattle.interface.specs.Places.{Cap, State, live, nothing, free, kindOf, greatestOf, greatest}
+use Rattle.interface.specs.Boot.{hypervisor, bootCap}
+use Rattle.interface.specs.Damage.{sameCap, fixed-place, hasPd, null-place, isResource, live-place, shallow, parentFits, lineageKeeps}
 use Rattle.interface.proofs.Basics.BoolLaws.{cases, and-left, and-right, both, same-test, or-none-left, or-none-right, each-of-four}
 use Rattle.interface.proofs.Sound.PlaceFacts.{more-live}
-use Rattle.record_rules.specs.RecordKeeping.{Numbered}
-use Rattle.record_rules.proofs.PdLaws.{home-counted}
-use Rattle.place_rules.specs.PlaceKeeping.{greatestAllowed, placeKeeps, whole, part, partsBefore, extentOf, group, Around, Stretch, Passed}
+use Rattle.place_rules.specs.PlaceKeeping.{greatestAllowed, placeKeeps, whole, part, partsBefore, extentOf}
 use Rattle.place_rules.specs.declared.Extent.{Extent}
 
 -- a link word that leads to a place is one more than its number, and one that leads nowhere is 0 or past the places
@@ -79,78 +75,6 @@ of-extent place number extent numbered l h is-extent =
     let end : extent .end ≡ part * (start (extent .space) + selectors (extent .space)) = ap (λ (e : Extent). e .end) is-extent in
     rw (numbered, from, end) (extent-tells place l (extent .space) h)
 
--- domain 0 at boot
-boot-there : (space selector : ℕ) → space < spaces → selector < selectors space → bootCap (placeOf hypervisor space selector) ≡ hypervisorCap space selector
-unfolding bootCap
-boot-there space selector h l = rw (selector-back hypervisor space selector h l, domain-back hypervisor space selector h l, space-back hypervisor space selector h l)
-
-module _ (place : ℕ) (cap : Cap) where
-  pub boot-memory : place < start io → cap ≡ parentless place (greatest memory free) → cap ≡ bootCap place
-  unfolding hypervisorCap
-  boot-memory l e =
-      let same : placeOf hypervisor memory place ≡ place = omega arith in
-      e ∙ sym (rw same at (boot-there memory place (omega arith) (omega arith)))
-
-  pub boot-io : start io ≤ place → place < start object → cap ≡ parentless (place - start io) (greatest io free) → cap ≡ bootCap place
-  unfolding hypervisorCap
-  boot-io g l e =
-      let same : placeOf hypervisor io (place - start io) ≡ place = omega arith in
-      e ∙ sym (rw same at (boot-there io (place - start io) (omega arith) (omega arith)))
-
-  module _ (g : start object ≤ place) (l : place < stride) where
-    boot-selector : bootCap place ≡ hypervisorCap object (place - start object)
-    boot-selector =
-        let same : placeOf hypervisor object (place - start object) ≡ place = omega arith in
-        rw same at (boot-there object (place - start object) (omega arith) (omega arith))
-
-    pub boot-interrupt : cpus ≤ place - start object → place - start object < rootPd → cap ≡ parentless (place - start object) (greatestOf SM) → cap ≡ bootCap place
-    unfolding hypervisorCap bootRecord
-    boot-interrupt d b e =
-        let late : ltb (place - start object) cpus ≡ false = le-ltb (place - start object) cpus d in
-        let inside : ltb (place - start object) rootPd ≡ true = lt-ltb (place - start object) rootPd b in
-        e ∙ (rw (boot-selector, inside, late))
-
-    pub boot-rest : rootPd ≤ place - start object → cap ≡ nothing → cap ≡ bootCap place
-    unfolding hypervisorCap
-    boot-rest d e = e ∙ (rw (boot-selector, le-ltb (place - start object) rootPd d))
-
--- its stretches
-pub memory-stretch : Stretch 0 (start io - 1)
-memory-stretch =
-    record {
-      begin = 0;
-      permissions = greatest memory free;
-      after-begin = omega arith;
-      few = omega arith;
-      long = omega arith;
-      in-domain = omega arith;
-      as-boot = λ p g l. let same : p - 0 ≡ p = omega arith in rw same (sym (boot-memory p (parentless p (greatest memory free)) (omega arith) refl));
-    }
-
-pub io-stretch : Stretch (start io) (start object - 1)
-io-stretch =
-    record {
-      begin = start io;
-      permissions = greatest io free;
-      after-begin = omega arith;
-      few = omega arith;
-      long = omega arith;
-      in-domain = omega arith;
-      as-boot = λ p g l. sym (boot-io p (parentless (p - start io) (greatest io free)) g (omega arith) refl);
-    }
-
-pub interrupt-stretch : Stretch (start object + cpus) (start object + rootPd - 1)
-interrupt-stretch =
-    record {
-      begin = start object;
-      permissions = greatestOf SM;
-      after-begin = omega arith;
-      few = omega arith;
-      long = omega arith;
-      in-domain = omega arith;
-      as-boot = λ p g l. sym (boot-interrupt p (parentless (p - start object) (greatestOf SM)) (omega arith) (omega arith) (omega arith) (omega arith) refl);
-    }
-
 -- domain 0 is the first stride
 pub first-stride : (place : ℕ) → ltb place stride ≡ eqb (domainOf place) hypervisor
 first-stride place =
@@ -202,9 +126,6 @@ module _ (s : State) (p : ℕ) where
   pub fixed-same : (same : Bool) (a b : Cap) → p < stride → a ≡ s .caps p → b ≡ bootCap p → same ≡ sameCap a b → same ≡ fixed-place s p
   unfolding fixed-place
   fixed-same same a b l e f h = h ∙ rw (← first-stride p, lt-ltb p stride l, e, f)
-
-  pub fixed-null : (same : Bool) (a b : Cap) → start object + rootPd ≤ p → p < stride → a ≡ s .caps p → b ≡ nothing → same ≡ sameCap a b → same ≡ fixed-place s p
-  fixed-null same a b g l e f h = fixed-same same a b l e (boot-rest p b (omega arith) l (omega arith) f) h
 
   -- the parent of a capability: a word other than 0 that leads nowhere names a number past the places
   pub parent-past : (space : ℕ) (cap : Cap) (q : ℕ) → places ≤ q → false ≡ parentFits s space cap q
@@ -281,57 +202,6 @@ module _ (s : State) (p : ℕ) where
           let is-home : home ≡ true = not-false home (or-none-left (not home) (ltb most (cap .permissions)) kept) in
           let within-bound : cap .permissions ≤ most = ltb-false most (cap .permissions) (or-none-right (not home) (ltb most (cap .permissions)) kept) in
           h ∙ rw (← held, lt-ltb 0 (cap .permissions) alive, ← at-home, is-home, bound-there, le-leb (cap .permissions) most within-bound)
-
--- a domain past 0 has a PD exactly where the place is below the stride of the last PD's domain
-home-below : {table : List ℕ} {pds : ℕ} → Numbered table pds → (caps : ℕ → Cap) (p : ℕ) → stride ≤ p →
-    ltb p (stride * (pds + 1)) ≡ (eqb (domainOf p) hypervisor || hasPd (record { caps = caps; objects = objectAt table }) (domainOf p))
-home-below {pds = pds} numbered caps p l =
-    rw (past-hypervisor p l)
-    (same-test (ltb p (stride * (pds + 1))) (between1 pds (domainOf p))
-    (λ (t : ltb p (stride * (pds + 1)) ≡ true).
-    let b : p < stride * (pds + 1) = ltb-true p (stride * (pds + 1)) t in
-    both (leb 1 (domainOf p)) (leb (domainOf p) pds) (le-leb 1 (domainOf p) (omega arith)) (le-leb (domainOf p) pds (omega arith)))
-    (λ (t : between1 pds (domainOf p) ≡ true).
-    let b : domainOf p ≤ pds = leb-true (domainOf p) pds (and-right (leb 1 (domainOf p)) (leb (domainOf p) pds) t) in
-    lt-ltb p (stride * (pds + 1)) (omega arith)) ∙
-    home-counted numbered caps (domainOf p) (domainOf p) refl)
-
-pub domain-without-pd : {table : List ℕ} {pds : ℕ} → Numbered table pds → (caps : ℕ → Cap) (p : ℕ) → stride ≤ p → stride * (pds + 1) ≤ p →
-    (eqb (domainOf p) hypervisor || hasPd (record { caps = caps; objects = objectAt table }) (domainOf p)) ≡ false
-domain-without-pd {pds = pds} numbered caps p past late = sym (home-below numbered caps p past) ∙ le-ltb p (stride * (pds + 1)) late
-
--- the places of a group have its space and its domain in common
-module _ (first p : ℕ) (aligned : first % group ≡ 0) (from : first ≤ p) (before : p < first + group) where
-  abbrev offset : ℕ
-  offset = p - first
-
-  there : first + offset ≡ p
-  there = omega arith
-
-  of-group : (n : ℕ) → n % group ≡ 0 → group ∣ n
-  of-group n e = dvd-of-mod-eq-zero group e
-
-  group-space : spaceOf p ≡ spaceOf first
-  group-space = rw there at (run-space group first offset (of-group (selectors memory) refl) (of-group (selectors object) refl) (of-group first aligned) (omega arith))
-
-  group-domain : domainOf p ≡ domainOf first
-  group-domain = rw there at (run-domain group first offset (of-group (selectors memory) refl) (of-group (selectors object) refl) (of-group first aligned) (omega arith))
-
-  -- so it has a PD exactly where the group is below the stride of the last PD's domain
-  group-home : {table : List ℕ} {pds : ℕ} → Numbered table pds → (caps : ℕ → Cap) → stride ≤ first →
-      ltb first (stride * (pds + 1)) ≡ (eqb (domainOf p) hypervisor || hasPd (record { caps = caps; objects = objectAt table }) (domainOf p))
-  group-home numbered caps past = rw group-domain (home-below numbered caps first past)
-
-  pub around-home : (tables : Tables) → Passed tables first → first < places → Around tables p (spaceOf first) true
-  around-home tables passed l =
-      record {
-        places-long = passed .places-long;
-        objects-long = passed .kept .numbered .long;
-        is-place = omega arith;
-        in-space = sym group-space;
-        at-home =
-            sym (lt-ltb first (stride * (passed .pds + 1)) (passed .has-pd)) ∙ group-home (passed .kept .numbered) (shown tables .caps) (passed .past-hypervisor);
-      }
 
 -- a place that keeps the rules together keeps each
 module _ (s : State) where

@@ -20,10 +20,10 @@ pub fn is_sound(places: &[u32], objects: &[u32]) -> bool
     if !record_rules::records_keep(objects, pds) {
         return false;
     }
-    if !place_rules::hypervisor_keeps(places) {
+    if !hypervisor_rules::hypervisor_keeps(places) {
         return false;
     }
-    place_rules::places_keep(places, objects, pds)
+    place_pass::places_keep(places, objects, pds)
 }
 
 // The first rule that two tables break, and the lowest record or else the lowest place that breaks it.

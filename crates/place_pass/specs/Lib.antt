@@ -1,0 +1,2 @@
+-- What the pass over the places cites beside their rules.
+pub mod PassKeeping
