@@ -6,8 +6,8 @@ use native.Mathlib.Nat.{add-zero}
 use lib.ListN.{length, take, take-append-drop}
 use Rattle.interface.specs.Journal.{Line, ended, spelled, spelledLines, Beginning, empty, of-no-kind, cut-off, whole, beginning, stopLines}
 use Rattle.interface.proofs.Journal.JournalLaws.{spelled-append}
-use Rattle.journal.specs.Texts.{Wrote}
-use Rattle.journal.proofs.TextLaws.{wrote-then}
+use Rattle.journal_lines.specs.Texts.{Wrote}
+use Rattle.journal_lines.proofs.TextLaws.{wrote-then}
 use Rattle.recorded_calls.proofs.LineLaws.{wrote-same}
 use Rattle.playback.specs.declared.Found.{Found}
 use Rattle.playback.specs.Playing.{foundOf, foundIn, stopOf}

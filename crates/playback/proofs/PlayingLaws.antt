@@ -25,8 +25,8 @@ use Rattle.interface.proofs.Basics.BoolLaws.{cases}
 use Rattle.interface.proofs.History.DemandLaws.{demand-3}
 use Rattle.interface.proofs.Journal.JournalLaws.{IsRecord, NoRecord, none-read, parts-read, record-added, tables-append, lines-append, length-lines, spelled-append, parts-in-turn, replay-none}
 use Rattle.interface.proofs.Consequences.ConsequenceLaws.{damaged-exactly}
-use Rattle.journal.specs.Texts.{lineBytes, Wrote}
-use Rattle.journal.proofs.TextLaws.{wrote-then}
+use Rattle.journal_lines.specs.Texts.{lineBytes, Wrote}
+use Rattle.journal_lines.proofs.TextLaws.{wrote-then}
 use Rattle.playback.specs.Playing.{foundIn, isWhole, stopOf, RoomForEach, Plays, Stops, Replays}
 use Rattle.playback.specs.declared.Found.{Found}
 use Rattle.playback.specs.declared.Played.{Played}

@@ -7,11 +7,9 @@ ghost use lib.ListN.{length, take, drop};
 ghost use Rattle.interface.specs.Places.{tables};
 ghost use Rattle.interface.specs.Damage.{sound};
 ghost use Rattle.interface.specs.Journal.{ended, spelledLines};
-ghost use Rattle.journal.specs.Texts.{lineBytes, Wrote};
+ghost use Rattle.journal_lines.specs.Texts.{lineBytes, Wrote};
 ghost use Rattle.playback.specs.Playing.{foundIn, stopOf, Plays, Stops, ReplayedAs};
-use journal::lines;
-use journal::lines::Line;
-use journal::records;
+use journal_lines::Line;
 
 // What begins at a position of a journal: nothing, a kind that is none, a record that is short, or a whole one with its kind and the bytes of its body.
 pub enum Found {
@@ -47,7 +45,7 @@ pub fn record_at(journal: &[u8], at: usize) -> Found
         return Found::Nothing;
     }
     let kind = journal[at];
-    let size = records::body_bytes(kind);
+    let size = journal_records::body_bytes(kind);
     if size == 0 {
         return Found::Unknown(kind);
     }
@@ -85,7 +83,7 @@ pub fn play_records(
                 written,
             };
         };
-        if out.len() - written < lines::LINE_BYTES {
+        if out.len() - written < journal_lines::LINE_BYTES {
             return Played {
                 at,
                 next,
@@ -146,7 +144,7 @@ pub fn replay(journal: &[u8], places: &mut [u32], objects: &mut [u32], text: &mu
     let next = played.next;
     let records = played.index;
     let written = played.written;
-    if text.len() - written < 2 * lines::LINE_BYTES {
+    if text.len() - written < 2 * journal_lines::LINE_BYTES {
         return Replayed::TooShort(records, written);
     }
     let bytes = add_last_lines(next, records, text, written);

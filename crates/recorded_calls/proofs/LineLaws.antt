@@ -17,8 +17,8 @@ use Rattle.interface.specs.Rules.{hypercallReply, hypercallTables}
 use Rattle.interface.specs.History.{hypercalls}
 use Rattle.interface.specs.Demand.{tablesAfter, tablesAfterAll}
 use Rattle.interface.specs.Journal.{recordedCall, done, spelled, spelledLines, linesFrom}
-use Rattle.journal.specs.declared.lines.Line.{Line}
-use Rattle.journal.specs.Texts.{lineOf, lineBytes, written, fitting, Wrote}
+use Rattle.journal_lines.specs.declared.Line.{Line}
+use Rattle.journal_lines.specs.Texts.{lineOf, lineBytes, written, fitting, Wrote}
 
 -- a text may be another that is the same
 pub wrote-same : {out after text other : List ℕ} {at end : ℕ} → text ≡ other → Wrote out at text after end → Wrote out at other after end

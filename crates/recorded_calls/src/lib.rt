@@ -7,13 +7,11 @@ ghost use Rattle.interface.specs.Places.{tables};
 ghost use Rattle.interface.specs.Damage.{sound};
 ghost use Rattle.interface.specs.Outcomes.{answered};
 ghost use Rattle.interface.specs.Journal.{recordedCall, spelled};
-ghost use Rattle.journal.specs.Texts.{lineOf, lineBytes, Wrote};
+ghost use Rattle.journal_lines.specs.Texts.{lineOf, lineBytes, Wrote};
 ghost use Rattle.recorded_calls.specs.OneRecord.{PlaysRecord};
 use descriptor::Reply;
 use interface::numbers;
-use journal::lines;
-use journal::lines::Line;
-use journal::records;
+use journal_lines::Line;
 use service::CallWords;
 use words::sizes;
 
@@ -27,13 +25,13 @@ pub fn play(kind: u8, body: &[u8], places: &mut [u32], objects: &mut [u32]) -> R
 {
     let mut source = [0u32; sizes::BLOCK_WORDS];
     let mut target = [0u32; sizes::BLOCK_WORDS];
-    let caller = records::body_word(body, 0);
-    let first = records::body_word(body, 1);
-    let second = records::body_word(body, 2);
-    let third = records::body_word(body, 3);
-    let fourth = records::body_word(body, 4);
-    let fifth = records::body_word(body, 5);
-    let sixth = records::body_word(body, 6);
+    let caller = journal_records::body_word(body, 0);
+    let first = journal_records::body_word(body, 1);
+    let second = journal_records::body_word(body, 2);
+    let third = journal_records::body_word(body, 3);
+    let fourth = journal_records::body_word(body, 4);
+    let fifth = journal_records::body_word(body, 5);
+    let sixth = journal_records::body_word(body, 6);
     let words = CallWords {
         first,
         second,
@@ -43,8 +41,8 @@ pub fn play(kind: u8, body: &[u8], places: &mut [u32], objects: &mut [u32]) -> R
         sixth,
     };
     if kind as u32 == numbers::CALL {
-        records::source(body, &mut source);
-        records::target(body, &mut target);
+        journal_records::source(body, &mut source);
+        journal_records::target(body, &mut target);
         return service::serve(
             kind as u32,
             caller,
@@ -72,8 +70,8 @@ pub fn add_line(line: Line, out: &mut [u8], at: usize) -> usize
     ensures { λ r. ⌜ Wrote (now (out .entry)) at (spelled (lineOf line)) (now (out .exit)) r ⌝ }
     ensures { λ r. ⌜ r ≤ at + lineBytes ⌝ }
 {
-    let end = at + lines::LINE_BYTES;
-    at + lines::spell(line, &mut out[at..end])
+    let end = at + journal_lines::LINE_BYTES;
+    at + journal_lines::spell(line, &mut out[at..end])
 }
 
 // Plays a record, and writes its line into a buffer at a place. Answers where the line ends.

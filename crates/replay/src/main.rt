@@ -5,10 +5,9 @@ ghost use mathlib.Core.Bool.{true};
 ghost use lib.ListN.{length, take};
 ghost use Rattle.interface.specs.Places.{tables};
 ghost use Rattle.interface.specs.Damage.{sound};
-ghost use Rattle.journal.specs.Texts.{lineBytes};
+ghost use Rattle.journal_lines.specs.Texts.{lineBytes};
 ghost use Rattle.playback.specs.Playing.{isWhole};
 ghost use Rattle.replay.specs.Buffers.{Waits, Inside, isEnd, fronted, lineStart, lastAfter, Turn, KeepsUnplayed, begun, TurnsToTheEnd};
-use journal::lines;
 use libc::STDIN_FILENO;
 use libc::STDOUT_FILENO;
 use playback::Found;
@@ -45,7 +44,7 @@ fn last_start(out: &[u8], waiting: usize) -> usize
     requires { ⌜ Waits (now out) waiting ⌝ }
     ensures { λ r. ⌜ r + 2 * lineBytes ≤ length (now (out .entry)) ⌝ }
 {
-    if out.len() - waiting < 2 * lines::LINE_BYTES {
+    if out.len() - waiting < 2 * journal_lines::LINE_BYTES {
         flush(out, waiting);
         return 0;
     }

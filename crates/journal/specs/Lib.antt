@@ -1,2 +1,0 @@
--- What the contracts of the journal's functions cite.
-pub mod Texts

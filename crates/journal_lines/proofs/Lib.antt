@@ -1,0 +1,3 @@
+-- What is proved of the text of a line.
+pub mod DecimalLaws
+pub mod TextLaws
