@@ -23,8 +23,6 @@ pub fn play(kind: u8, body: &[u8], places: &mut [u32], objects: &mut [u32]) -> R
         answered (tables (now (places .entry)) (now (objects .entry))) (recordedCall kind (now (body .entry))) ⌝ }
     ensures { λ r. ⌜ sound (tables (now (places .exit)) (now (objects .exit))) ≡ true ⌝ }
 {
-    let mut source = [0u32; sizes::BLOCK_WORDS];
-    let mut target = [0u32; sizes::BLOCK_WORDS];
     let caller = journal_records::body_word(body, 0);
     let first = journal_records::body_word(body, 1);
     let second = journal_records::body_word(body, 2);
@@ -41,6 +39,8 @@ pub fn play(kind: u8, body: &[u8], places: &mut [u32], objects: &mut [u32]) -> R
         sixth,
     };
     if kind as u32 == numbers::CALL {
+        let mut source = [0u32; sizes::BLOCK_WORDS];
+        let mut target = [0u32; sizes::BLOCK_WORDS];
         journal_records::source(body, &mut source);
         journal_records::target(body, &mut target);
         return service::serve(
@@ -53,14 +53,16 @@ pub fn play(kind: u8, body: &[u8], places: &mut [u32], objects: &mut [u32]) -> R
             &mut target,
         );
     }
+    let source = [0u32; 0];
+    let mut target = [0u32; 0];
     service::serve(
         kind as u32,
         caller,
         words,
         places,
         objects,
-        &source[0..0],
-        &mut target[0..0],
+        &source,
+        &mut target,
     )
 }
 

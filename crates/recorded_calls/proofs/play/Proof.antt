@@ -77,23 +77,11 @@ returns c =
     let is-target = c .before .before .before .before .before .before .before .before .before .before .target2 .ensures in
     (plays-call (words (chosen .before)) _ (served .0) (chosen .if1 .taken) is-source is-target, search needs)
 
-sub-serve : tie.Need-sub-serve
-sub-serve c = search needs
+slice-aggregate-serve-3 : tie.Need-slice-aggregate-serve-3
+slice-aggregate-serve-3 c = refl
 
-part-serve-start : tie.Need-part-serve-start
-part-serve-start c = search needs
-
-part-serve-end : tie.Need-part-serve-end
-part-serve-end c = search needs
-
-sub-serve-2 : tie.Need-sub-serve-2
-sub-serve-2 c = search needs
-
-part-target-start : tie.Need-part-target-start
-part-target-start c = search needs
-
-part-target-end : tie.Need-part-target-end
-part-target-end c = search needs
+slice-aggregate-serve-4 : tie.Need-slice-aggregate-serve-4
+slice-aggregate-serve-4 c = refl
 
 serve-requires-2 : tie.Need-serve-requires-2
 serve-requires-2 c κs = search needs
@@ -107,7 +95,7 @@ same-length-4 c = search needs
 returns-2 : tie.Need-returns-2
 returns-2 c =
     let served = c .before .before .before .before .before .serve2 .ensures in
-    let chosen = c .before .before .before .before .before .before .before .before .before .before .before in
+    let chosen = c .before .before .before .before .before .before .before .before .before .before in
     (plays-other (words (chosen .before)) _ (served .0) (chosen .if1 .left) refl refl, search needs)
 
 pub play-spec : {M : Type 1} → statement M
@@ -129,12 +117,8 @@ play-spec =
     same-length
     same-length-2
     returns
-    sub-serve
-    part-serve-start
-    part-serve-end
-    sub-serve-2
-    part-target-start
-    part-target-end
+    slice-aggregate-serve-3
+    slice-aggregate-serve-4
     serve-requires-2
     same-length-3
     same-length-4
