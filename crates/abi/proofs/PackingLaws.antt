@@ -7,9 +7,9 @@ use native.Mathlib.Omega.{arith}
 use lib.Dec.{ltb}
 use borrow.Author.Tests.{ltb-true}
 use Rattle.words.specs.Sizes.{places, records}
-use Rattle.descriptor.specs.declared.Reply.{Reply}
-use Rattle.descriptor.specs.declared.Fault.{Fault}
-use Rattle.descriptor.specs.declared.Fault.the-variants.{NoFault, Lengths, AtRecord, AtPlace}
+use Rattle.reply.specs.declared.Reply.{Reply}
+use Rattle.reply.specs.declared.Fault.{Fault}
+use Rattle.reply.specs.declared.Fault.the-variants.{NoFault, Lengths, AtRecord, AtPlace}
 use Rattle.interface.specs.Basics.{lowest}
 use Rattle.interface.specs.Places.{State, Tables, sized, shown, tables}
 use Rattle.interface.specs.Damage.{Rule, rulesOfDamage, firstFault, fault}

@@ -2,10 +2,10 @@
 use Prim.Native.Nat.{ℕ, _+_, _*_}
 use mathlib.Core.List.{List}
 use Rattle.words.specs.Sizes.{records}
-use Rattle.descriptor.specs.Replies.{statusOf, answerOf}
-use Rattle.descriptor.specs.declared.Fault.{Fault}
-use Rattle.descriptor.specs.declared.Fault.the-variants.{NoFault, Lengths, AtRecord, AtPlace}
-use Rattle.descriptor.specs.declared.Reply.{Reply}
+use Rattle.reply.specs.Replies.{statusOf, answerOf}
+use Rattle.reply.specs.declared.Fault.{Fault}
+use Rattle.reply.specs.declared.Fault.the-variants.{NoFault, Lengths, AtRecord, AtPlace}
+use Rattle.reply.specs.declared.Reply.{Reply}
 use Rattle.interface.specs.Places.{Tables}
 use Rattle.interface.specs.Rules.{bootReply, bootTables}
 use Rattle.interface.specs.Census.{CensusResult}

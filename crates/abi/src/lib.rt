@@ -9,8 +9,8 @@ ghost use Rattle.interface.specs.Message.{untypedPart};
 ghost use Rattle.interface.specs.Census.{censusOf};
 ghost use Rattle.interface.specs.Outcomes.{callOf, outcome};
 ghost use Rattle.abi.specs.Packing.{joined, packed, packedFault, booting, calling, counting};
-use descriptor::Fault;
-use descriptor::Reply;
+use reply::Fault;
+use reply::Reply;
 use words::sizes;
 
 // Two numbers of 32 bits in one of 64.

@@ -7,11 +7,11 @@ use lib.Dec.{eqb, leb, ltb}
 use borrow.Author.Tests.{lt-ltb, le-ltb, eq-eqb, ne-eqb, leb-true, ltb-true}
 use native.Mathlib.Omega.{arith}
 use Rattle.words.specs.Sizes.{object, records, domainOf, spaceOf, selectorOf}
-use Rattle.descriptor.specs.declared.ObjectNumber.{ObjectNumber}
-use Rattle.descriptor.specs.declared.FoundObject.{FoundObject}
-use Rattle.descriptor.specs.declared.FoundObject.the-variants.{Numbered, Beyond}
-use Rattle.descriptor.specs.Numbers.{numbered}
-use Rattle.descriptor.proofs.DescriptorLaws.{numbered-so}
+use Rattle.layout.specs.declared.ObjectNumber.{ObjectNumber}
+use Rattle.layout.specs.declared.FoundObject.{FoundObject}
+use Rattle.layout.specs.declared.FoundObject.the-variants.{Numbered, Beyond}
+use Rattle.layout.specs.Numbers.{numbered}
+use Rattle.layout.proofs.NumberLaws.{numbered-so}
 use Rattle.interface.specs.Basics.{if_then_else_, word}
 use Rattle.interface.specs.Places.{Cap, nothing, parentless, free, PD, EC, SC, SM, kindWord, greatest}
 use Rattle.interface.specs.Boot.{hypervisor, root, cpus, rootPd, rootEc, rootSc, rootObjects, exc, rootPriority, rootQuantum, noEc, bootRecord, bootObject, hypervisorCap, rootCap, bootCap}

@@ -7,7 +7,7 @@ use native.Mathlib.Omega.{arith}
 use lib.Dec.{eqb}
 use borrow.Author.Tests.{eqb-true, eqb-false, not-true, not-false}
 use Rattle.words.specs.Sizes.{places, records}
-use Rattle.descriptor.specs.declared.Reply.the-variants.{Success, Damaged}
+use Rattle.reply.specs.declared.Reply.the-variants.{Success, Damaged}
 use Rattle.interface.specs.Basics.{word, put}
 use Rattle.interface.specs.Places.{Cap, sized, capAt, objectAt, capTable, recordTable}
 use Rattle.interface.specs.Boot.{bootRecord, bootCap}

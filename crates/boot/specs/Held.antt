@@ -2,9 +2,9 @@
 use Prim.Native.Nat.{ℕ, _+_, _-_}
 use mathlib.Core.Bool.{_&&_}
 use lib.Dec.{leb, ltb}
-use Rattle.descriptor.specs.declared.FoundObject.{FoundObject}
-use Rattle.descriptor.specs.declared.FoundObject.the-variants.{Numbered, Beyond}
-use Rattle.descriptor.specs.Numbers.{numbered}
+use Rattle.layout.specs.declared.FoundObject.{FoundObject}
+use Rattle.layout.specs.declared.FoundObject.the-variants.{Numbered, Beyond}
+use Rattle.layout.specs.Numbers.{numbered}
 use Rattle.interface.specs.Basics.{if_then_else_}
 use Rattle.interface.specs.Places.{Cap, nothing}
 use Rattle.interface.specs.Boot.{rootPd, rootObjects, exc, bootObject}

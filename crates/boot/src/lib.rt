@@ -7,13 +7,13 @@ ghost use Rattle.interface.specs.Outcomes.{Booted};
 ghost use Rattle.places.specs.Table.{Sized as SizedPlaces};
 ghost use Rattle.objects.specs.Records.{Sized as SizedObjects, wordsOf};
 ghost use Rattle.boot.specs.Held.{hypervisorObject, rootObject, heldCap};
-use descriptor::Cap;
-use descriptor::FoundObject;
-use descriptor::ObjectNumber;
-use descriptor::Place;
-use descriptor::Reply;
-use descriptor::Selector;
+use layout::Cap;
+use layout::FoundObject;
+use layout::ObjectNumber;
+use layout::Place;
+use layout::Selector;
 use objects::Record;
+use reply::Reply;
 use words::sizes;
 
 // Each CPU has an idle SC and each interrupt a semaphore; the records of the root's PD, EC and SC follow them.

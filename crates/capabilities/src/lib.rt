@@ -7,9 +7,9 @@ ghost use Rattle.interface.specs.Places.{domainWord, objectAt, objectPlace, per
 ghost use Rattle.places.specs.Table.{Sized as SizedPlaces};
 ghost use Rattle.objects.specs.Records.{Sized as SizedObjects};
 ghost use Rattle.capabilities.specs.Callers.{Called};
-use descriptor::ObjectNumber;
-use descriptor::Place;
-use descriptor::Selector;
+use layout::ObjectNumber;
+use layout::Place;
+use layout::Selector;
 use words::permissions;
 use words::sizes;
 

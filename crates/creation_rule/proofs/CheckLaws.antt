@@ -6,12 +6,12 @@ use mathlib.Core.List.{List, [], _∷_, _++_}
 use lib.Dec.{ltb}
 use borrow.Author.Tests.{lt-ltb, le-ltb, not-true, not-false}
 use Rattle.words.specs.Sizes.{records}
-use Rattle.descriptor.specs.declared.ObjectNumber.{ObjectNumber}
-use Rattle.descriptor.specs.declared.FoundObject.{FoundObject}
-use Rattle.descriptor.specs.declared.FoundObject.the-variants.{Numbered, Beyond}
-use Rattle.descriptor.specs.Numbers.{numbered}
-use Rattle.descriptor.proofs.DescriptorLaws.{numbered-past, numbered-inside}
-use Rattle.descriptor.specs.declared.Reply.the-variants.{BadCap, BadCpu, BadPar, NoRoom}
+use Rattle.layout.specs.declared.ObjectNumber.{ObjectNumber}
+use Rattle.layout.specs.declared.FoundObject.{FoundObject}
+use Rattle.layout.specs.declared.FoundObject.the-variants.{Numbered, Beyond}
+use Rattle.layout.specs.Numbers.{numbered}
+use Rattle.layout.proofs.NumberLaws.{numbered-past, numbered-inside}
+use Rattle.reply.specs.declared.Reply.the-variants.{BadCap, BadCpu, BadPar, NoRoom}
 use Rattle.interface.specs.Places.{Cap, State, live, PD, createBit, objectPlace, permitted}
 use Rattle.interface.specs.Effects.{make, hold}
 use Rattle.interface.specs.Verdicts.{Verdict, grant, require_else_then_}

@@ -4,10 +4,10 @@ use mathlib.Core.Path.{_≡_, ap}
 use mathlib.Core.Bool.{true}
 use mathlib.Core.List.{List, [], _∷_, _++_}
 use Rattle.words.specs.Sizes.{records}
-use Rattle.descriptor.specs.declared.ObjectNumber.{ObjectNumber}
+use Rattle.layout.specs.declared.ObjectNumber.{ObjectNumber}
 use Rattle.descriptor.specs.declared.Reading.{Reading}
-use Rattle.descriptor.specs.declared.Reply.{Reply}
-use Rattle.descriptor.specs.declared.Reply.the-variants.{Success}
+use Rattle.reply.specs.declared.Reply.{Reply}
+use Rattle.reply.specs.declared.Reply.the-variants.{Success}
 use Rattle.interface.specs.Basics.{word, put}
 use Rattle.interface.specs.Places.{Cap, State, kindWord, parentless, greatestOf, objectPlace, capAt, objectAt, capTable, recordTable, tables, view}
 use Rattle.interface.specs.Effects.{make, hold, act, run}

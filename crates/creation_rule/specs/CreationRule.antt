@@ -4,10 +4,10 @@ use mathlib.Core.Path.{_≡_}
 use mathlib.Core.Bool.{true}
 use mathlib.Core.List.{List, [], _∷_, _++_}
 use Rattle.words.specs.Sizes.{domains, object, records}
-use Rattle.descriptor.specs.declared.ObjectNumber.{ObjectNumber}
+use Rattle.layout.specs.declared.ObjectNumber.{ObjectNumber}
 use Rattle.descriptor.specs.declared.Reading.{Reading}
 use Rattle.descriptor.specs.declared.Reading.the-variants.{Null, Malformed, Good}
-use Rattle.descriptor.specs.declared.Reply.{Reply}
+use Rattle.reply.specs.declared.Reply.{Reply}
 use Rattle.descriptor.specs.Descriptors.{Proper}
 use Rattle.interface.specs.Basics.{word}
 use Rattle.interface.specs.Places.{State, Tables, objectPlace, capAt, shown}

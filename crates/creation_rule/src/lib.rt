@@ -9,13 +9,13 @@ ghost use Rattle.interface.specs.Creations.{handOn, initialGood, initialGives};
 ghost use Rattle.places.specs.Table.{Sized as SizedPlaces};
 ghost use Rattle.objects.specs.Records.{Sized as SizedObjects};
 ghost use Rattle.creation_rule.specs.CreationRule.{Decides, Creates, Hands, Handed};
-use descriptor::FoundObject;
-use descriptor::ObjectNumber;
-use descriptor::Place;
 use descriptor::Range;
 use descriptor::Reading;
-use descriptor::Reply;
+use layout::FoundObject;
+use layout::ObjectNumber;
+use layout::Place;
 use objects::Record;
+use reply::Reply;
 use words::ranges;
 use words::sizes;
 

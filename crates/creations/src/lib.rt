@@ -11,10 +11,10 @@ ghost use Rattle.objects.specs.Records.{Sized as SizedObjects};
 ghost use Rattle.capabilities.specs.Callers.{Called};
 use creation_rule::Creation;
 use descriptor::Descriptor;
-use descriptor::ObjectNumber;
 use descriptor::Reading;
-use descriptor::Reply;
+use layout::ObjectNumber;
 use objects::Record;
+use reply::Reply;
 use words::sizes;
 
 // The numbers of the bits that permit binding an SC and a PT to an EC.

@@ -5,8 +5,8 @@ ghost use Rattle.interface.specs.Message.{delegations};
 ghost use Rattle.places.specs.Table.{Sized};
 ghost use Rattle.windows.specs.Matching.{Matched};
 ghost use Rattle.delegation.specs.Delegating.{GivenAt, Taken};
-use descriptor::Place;
 use descriptor::Range;
+use layout::Place;
 use words::ranges;
 
 // Delegates the place at an offset of the item to the place at an offset of its window. Answers whether it filled that.

@@ -7,11 +7,11 @@ use native.Mathlib.Omega.{arith}
 use lib.Dec.{eqb}
 use borrow.Author.Tests.{eqb-true, eqb-false}
 use Rattle.words.specs.Sizes.{places, spaceOf}
-use Rattle.descriptor.specs.declared.Place.{Place}
-use Rattle.descriptor.specs.declared.FoundPlace.{FoundPlace}
-use Rattle.descriptor.specs.declared.FoundPlace.the-variants.{At, Nowhere}
-use Rattle.descriptor.specs.Numbers.{linkOf, linked}
-use Rattle.descriptor.proofs.DescriptorLaws.{linked-out, linked-inside}
+use Rattle.layout.specs.declared.Place.{Place}
+use Rattle.layout.specs.declared.FoundPlace.{FoundPlace}
+use Rattle.layout.specs.declared.FoundPlace.the-variants.{At, Nowhere}
+use Rattle.layout.specs.Numbers.{linkOf, linked}
+use Rattle.layout.proofs.NumberLaws.{linked-out, linked-inside}
 use Rattle.interface.specs.Basics.{any}
 use Rattle.interface.specs.Places.{Cap}
 use Rattle.interface.specs.Effects.{ancestors, among, below}

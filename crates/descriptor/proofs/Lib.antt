@@ -1,2 +1,2 @@
--- The laws of numbers and descriptors that the functions' proofs and the crates above cite.
+-- The laws of descriptors that the functions' proofs and the crates above cite.
 pub mod DescriptorLaws

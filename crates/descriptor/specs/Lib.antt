@@ -1,4 +1,2 @@
--- Places and object numbers, the range descriptor and the reply, as definitions.
-pub mod Numbers
+-- The range descriptor, as definitions.
 pub mod Descriptors
-pub mod Replies

@@ -9,11 +9,11 @@ ghost use Rattle.words.specs.Sizes.{domains, io, object, spaces, selectors};
 ghost use Rattle.words.specs.Ranges.{aligned};
 ghost use Rattle.descriptor.specs.Descriptors.{Proper};
 use descriptor::Descriptor;
-use descriptor::FoundPlace;
-use descriptor::Place;
 use descriptor::Range;
 use descriptor::Reading;
-use descriptor::Reply;
+use layout::FoundPlace;
+use layout::Place;
+use reply::Reply;
 use words::ranges;
 use words::sizes;
 

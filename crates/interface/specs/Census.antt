@@ -4,8 +4,8 @@ use mathlib.Core.List.{List, _++_}
 use lib.Dec.{leb, ltb}
 use lib.ListN.{length, drop}
 use Rattle.words.specs.Sizes.{places}
-use Rattle.descriptor.specs.declared.Reply.{Reply}
-use Rattle.descriptor.specs.declared.Reply.the-variants.{Success, Damaged, BadPar, BadCap, Short}
+use Rattle.reply.specs.declared.Reply.{Reply}
+use Rattle.reply.specs.declared.Reply.the-variants.{Success, Damaged, BadPar, BadCap, Short}
 use Rattle.interface.specs.Basics.{if_then_else_, gather}
 use Rattle.interface.specs.Places.{Cap, State, Tables, live, shown}
 use Rattle.interface.specs.Damage.{sound}

@@ -8,11 +8,11 @@ use lib.Dec.{eqb}
 use Rattle.words.specs.Sizes.{object, placeOf, domainOf, spaceOf, selectorOf, greatestOrder}
 use Rattle.words.specs.Permissions.{within}
 use Rattle.words.specs.Ranges.{rounded}
-use Rattle.descriptor.specs.Replies.{statusOf}
+use Rattle.reply.specs.Replies.{statusOf}
 use Rattle.descriptor.specs.declared.Range.{Range}
 use Rattle.descriptor.specs.declared.Reading.{Reading}
 use Rattle.descriptor.specs.declared.Reading.the-variants.{Null, Malformed, Good}
-use Rattle.descriptor.specs.declared.Reply.the-variants.{Success, Damaged}
+use Rattle.reply.specs.declared.Reply.the-variants.{Success, Damaged}
 use Rattle.interface.specs.Basics.{if_then_else_, word}
 use Rattle.interface.specs.Places.{Cap, State, Tables, live, parentless, free, PD, EC, SC, PT, SM, domainWord, ecWord, kindOf, greatestOf, objectPlace, objectIn}
 use Rattle.interface.specs.Boot.{hypervisor, root}

@@ -5,7 +5,7 @@ use mathlib.Core.Path.{_≡_}
 use mathlib.Core.Bool.{true, false}
 use Rattle.words.specs.Fields.{bits}
 use Rattle.words.specs.Sizes.{object, selectors, domainOf, records}
-use Rattle.descriptor.specs.declared.Reply.the-variants.{Success}
+use Rattle.reply.specs.declared.Reply.the-variants.{Success}
 use Rattle.interface.specs.Places.{State, free, PD, EC, SC, PT, SM, kindWord, domainWord, cpuWord, eventBaseWord, ecWord, priorityWord, quantumWord, mtdWord, entryWord, identifierWord, countWord, namedWords, greatestOf, kindOf, objectIn}
 use Rattle.interface.specs.Damage.{pdsBelow, hasPd}
 use Rattle.interface.specs.Verdicts.{Call, CREATE-PD, CREATE-EC, CREATE-SC, CREATE-PT, CREATE-SM}

@@ -7,7 +7,7 @@ use Rattle.words.specs.Fields.{bits}
 use Rattle.words.specs.Sizes.{domains, object, selectors, placeOf, records}
 use Rattle.descriptor.specs.declared.Reading.{Reading}
 use Rattle.descriptor.specs.declared.Reading.the-variants.{Null, Malformed, Good}
-use Rattle.descriptor.specs.declared.Reply.the-variants.{BadCap, BadCpu, BadPar, NoRoom}
+use Rattle.reply.specs.declared.Reply.the-variants.{BadCap, BadCpu, BadPar, NoRoom}
 use Rattle.interface.specs.Basics.{listed, lowest}
 use Rattle.interface.specs.Places.{State, live, free, PD, EC, SC, PT, SM, domainWord, kindOf, createBit, bindScBit, bindPtBit, objectPlace, objectIn, permitted}
 use Rattle.interface.specs.Boot.{cpus}

@@ -5,8 +5,8 @@ use mathlib.Core.List.{List, [], _∷_}
 use lib.Dec.{eqb, leb, ltb}
 use Rattle.words.specs.Sizes.{domains, object, selectors, domainOf, spaceOf, places, records, recordWords, greatestDepth}
 use Rattle.words.specs.Permissions.{within}
-use Rattle.descriptor.specs.declared.Fault.{Fault}
-use Rattle.descriptor.specs.declared.Fault.the-variants.{NoFault, Lengths, AtRecord, AtPlace}
+use Rattle.reply.specs.declared.Fault.{Fault}
+use Rattle.reply.specs.declared.Fault.the-variants.{NoFault, Lengths, AtRecord, AtPlace}
 use Rattle.interface.specs.Basics.{if_then_else_, allBelow, anyBelow, countBelow, lowest, all}
 use Rattle.interface.specs.Places.{Cap, State, Tables, live, nothing, sized, shown, free, PD, EC, SC, PT, SM, domainWord, cpuWord, eventBaseWord, ecWord, priorityWord, quantumWord, namedWords, kindOf, greatest}
 use Rattle.interface.specs.Boot.{boot, hypervisor, cpus, rootPd, rootSc}

@@ -6,7 +6,7 @@ use mathlib.Core.Bool.{Bool, true, false}
 use mathlib.Core.List.{[], _∷_, map}
 use lib.Dec.{eqb}
 use lib.ListN.{length}
-use Rattle.descriptor.specs.declared.Fault.the-variants.{NoFault, Lengths, AtRecord, AtPlace}
+use Rattle.reply.specs.declared.Fault.the-variants.{NoFault, Lengths, AtRecord, AtPlace}
 use Rattle.interface.specs.Basics.{if_then_else_}
 use Rattle.interface.specs.Places.{State, Tables, shown}
 use Rattle.interface.specs.Damage.{Rule, fixed-record, fixed-place, interrupt-rule, unnamed-rule, used-first, pd-rule, ec-rule, sc-rule, pt-rule, null-place, live-place, shallow, rulesOfDamage, sound, fault}

@@ -8,7 +8,7 @@ use lib.ListN.{length, drop}
 use Rattle.words.specs.Sizes.{domainOf, spaceOf, selectorOf, places}
 use Rattle.descriptor.specs.declared.Range.{Range}
 use Rattle.descriptor.specs.declared.Reading.the-variants.{Good}
-use Rattle.descriptor.specs.declared.Reply.the-variants.{Success}
+use Rattle.reply.specs.declared.Reply.the-variants.{Success}
 use Rattle.interface.specs.Basics.{if_then_else_, member, rising}
 use Rattle.interface.specs.Places.{State, Tables, live, nothing, domainWord, capAt, tablesOf, shown}
 use Rattle.interface.specs.Boot.{boot}

@@ -10,7 +10,7 @@ use Rattle.words.specs.Fields.{greatestWord}
 use Rattle.words.specs.Permissions.{delegated, permits}
 use Rattle.descriptor.specs.declared.Range.{Range}
 use Rattle.descriptor.specs.declared.Reading.the-variants.{Malformed, Good}
-use Rattle.descriptor.specs.declared.Reply.the-variants.{Success, ComTim, BadHyp, BadCap, BadPar, BadCpu, NoRoom, Damaged, BadCaller, Short}
+use Rattle.reply.specs.declared.Reply.the-variants.{Success, ComTim, BadHyp, BadCap, BadPar, BadCpu, NoRoom, Damaged, BadCaller, Short}
 use Rattle.interface.specs.Basics.{if_then_else_, word, listed}
 use Rattle.interface.specs.Places.{Cap, State, nothing, parentless, PD, EC, PT, domainWord, free, SC, SM, kindWord, cpuWord, eventBaseWord, ecWord, priorityWord, quantumWord, mtdWord, entryWord, identifierWord, countWord, namedWords, greatest, createBit, bindScBit, bindPtBit, callBit, objectPlace, capWords, placeTableWords, objectTableWords}
 use Rattle.interface.specs.Boot.{boot, hypervisor, root, rootEc, bootRecord, cpus, gsis}
@@ -22,7 +22,7 @@ use Rattle.interface.specs.Message.{delegations, headWords, translateWin
 use Rattle.interface.specs.Verdicts.{Call, CALL, CREATE-PD, LOOKUP, replyOf, blockOf, CREATE-EC, CREATE-SC, CREATE-PT, CREATE-SM, REVOKE, SM-CTRL}
 use Rattle.interface.specs.Rules.{rules, after, rule, not-built, hypercall}
 use Rattle.interface.specs.Journal.{done, short, unknown, ended, replay, spelledLines, bodyBytes}
-use Rattle.descriptor.specs.Replies.{statusOf, answerOf}
+use Rattle.reply.specs.Replies.{statusOf, answerOf}
 use Rattle.interface.specs.Creations.{priority, quantum, createPd, createEc, createSc, createPt, createSm}
 use Rattle.interface.specs.Lookup.{lookup}
 use Rattle.interface.specs.Semaphores.{up, down, smCtrl}

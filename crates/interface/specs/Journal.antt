@@ -6,7 +6,7 @@ use lib.Dec.{eqb, ltb}
 use lib.ListN.{length, take, drop}
 use Rattle.io.specs.Digits.{digits}
 use Rattle.words.specs.Sizes.{blockWords}
-use Rattle.descriptor.specs.Replies.{statusOf, answerOf}
+use Rattle.reply.specs.Replies.{statusOf, answerOf}
 use Rattle.interface.specs.Basics.{if_then_else_, word, listed}
 use Rattle.interface.specs.Places.{Tables, tablesOf}
 use Rattle.interface.specs.Boot.{boot}

@@ -8,7 +8,7 @@ use Rattle.words.specs.Ranges.{rounded}
 use Rattle.descriptor.specs.declared.Range.{Range}
 use Rattle.descriptor.specs.declared.Reading.{Reading}
 use Rattle.descriptor.specs.declared.Reading.the-variants.{Null, Malformed, Good}
-use Rattle.descriptor.specs.declared.Reply.the-variants.{BadPar}
+use Rattle.reply.specs.declared.Reply.the-variants.{BadPar}
 use Rattle.interface.specs.Basics.{if_then_else_, allBelow}
 use Rattle.interface.specs.Places.{Cap, State, live}
 use Rattle.interface.specs.RangeDescriptors.{describe, reading, malformed}

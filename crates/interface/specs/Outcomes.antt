@@ -2,7 +2,7 @@
 use Prim.Native.Nat.{ℕ}
 use mathlib.Core.Path.{_≡_}
 use mathlib.Core.List.{List}
-use Rattle.descriptor.specs.declared.Reply.{Reply}
+use Rattle.reply.specs.declared.Reply.{Reply}
 use Rattle.interface.specs.Places.{Tables, tables}
 use Rattle.interface.specs.Verdicts.{Call}
 use Rattle.interface.specs.Rules.{hypercallReply, hypercallTables, hypercallBlock, bootReply, bootTables}

@@ -4,7 +4,7 @@ use mathlib.Core.Bool.{Bool, _&&_}
 use mathlib.Core.List.{List, [], _∷_}
 use lib.Dec.{eqb, ltb}
 use lib.ListN.{length}
-pub use Rattle.descriptor.specs.declared.Cap.{Cap}
+pub use Rattle.layout.specs.declared.Cap.{Cap}
 use Rattle.words.specs.Sizes.{memory, io, object, selectors, placeOf, places, placeWords, records, recordWords}
 use Rattle.words.specs.Permissions.{permits}
 use Rattle.interface.specs.Basics.{if_then_else_, word, listed}

@@ -3,7 +3,7 @@ use mathlib.Core.Bool.{not, _&&_}
 use lib.Dec.{eqb}
 use lib.ListN.{length}
 use Rattle.words.specs.Sizes.{blockWords}
-use Rattle.descriptor.specs.declared.Reply.the-variants.{ComTim, BadCap, BadPar, BadCpu}
+use Rattle.reply.specs.declared.Reply.the-variants.{ComTim, BadCap, BadPar, BadCpu}
 use Rattle.interface.specs.Basics.{word}
 use Rattle.interface.specs.Places.{State, PT, ecWord, domainWord, cpuWord, callBit, objectPlace, permitted, objectIn}
 use Rattle.interface.specs.Verdicts.{Call, Verdict, deliver, require_else_then_, callerDomain}

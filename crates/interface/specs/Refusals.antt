@@ -8,11 +8,11 @@ use mathlib.Core.List.{List, [], _∷_}
 use lib.ListN.{length}
 use Rattle.words.specs.Fields.{bits, greatestWord}
 use Rattle.words.specs.Sizes.{domains, object, places, records, blockWords}
-use Rattle.descriptor.specs.Replies.{statusOf}
+use Rattle.reply.specs.Replies.{statusOf}
 use Rattle.descriptor.specs.declared.Range.{Range}
 use Rattle.descriptor.specs.declared.Reading.the-variants.{Malformed, Good}
-use Rattle.descriptor.specs.declared.Reply.{Reply}
-use Rattle.descriptor.specs.declared.Reply.the-variants.{Success, ComTim, BadHyp, BadCap, BadPar, BadCpu, NoRoom, BadCaller, Short}
+use Rattle.reply.specs.declared.Reply.{Reply}
+use Rattle.reply.specs.declared.Reply.the-variants.{Success, ComTim, BadHyp, BadCap, BadPar, BadCpu, NoRoom, BadCaller, Short}
 use Rattle.interface.specs.Basics.{word, member}
 use Rattle.interface.specs.Places.{State, Tables, shown, free, PD, EC, SC, PT, SM, ecWord, cpuWord, countWord, createBit, bindScBit, bindPtBit, callBit, kindOf, objectPlace, objectIn}
 use Rattle.interface.specs.Damage.{soundState, sound, hasPd, isEc}

@@ -6,7 +6,7 @@ use lib.Dec.{eqb, leb}
 use Rattle.words.specs.Sizes.{placeOf}
 use Rattle.descriptor.specs.declared.Reading.{Reading}
 use Rattle.descriptor.specs.declared.Reading.the-variants.{Null, Malformed, Good}
-use Rattle.descriptor.specs.declared.Reply.the-variants.{BadPar}
+use Rattle.reply.specs.declared.Reply.the-variants.{BadPar}
 use Rattle.interface.specs.Places.{State}
 use Rattle.interface.specs.RangeDescriptors.{reading, malformed}
 use Rattle.interface.specs.Effects.{Effect, cut}

@@ -3,7 +3,7 @@ use Prim.Native.Nat.{ℕ, _+_, _-_}
 use mathlib.Core.List.{[], _∷_}
 use lib.Dec.{eqb, leb, ltb}
 use Rattle.words.specs.Fields.{greatestWord}
-use Rattle.descriptor.specs.declared.Reply.the-variants.{ComTim, BadCap, BadPar}
+use Rattle.reply.specs.declared.Reply.the-variants.{ComTim, BadCap, BadPar}
 use Rattle.interface.specs.Basics.{if_then_else_}
 use Rattle.interface.specs.Places.{State, SM, countWord, objectPlace, permitted, objectIn}
 use Rattle.interface.specs.Effects.{count}

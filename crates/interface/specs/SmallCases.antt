@@ -9,8 +9,8 @@ use Rattle.descriptor.specs.declared.Match.the-variants.{Both}
 use Rattle.descriptor.specs.declared.Reason.the-variants.{TranslationBroke}
 use Rattle.descriptor.specs.declared.Received.{Received}
 use Rattle.descriptor.specs.declared.Received.the-variants.{NullItem, Shows}
-use Rattle.descriptor.specs.declared.Fault.{Fault}
-use Rattle.descriptor.specs.declared.Fault.the-variants.{NoFault, AtRecord, AtPlace}
+use Rattle.reply.specs.declared.Fault.{Fault}
+use Rattle.reply.specs.declared.Fault.the-variants.{NoFault, AtRecord, AtPlace}
 use Rattle.interface.specs.Basics.{if_then_else_, word, put, listed}
 use Rattle.interface.specs.Places.{Cap, State}
 use Rattle.interface.specs.Boot.{boot}

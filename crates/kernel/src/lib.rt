@@ -7,7 +7,7 @@ ghost use Rattle.interface.specs.Message.{untypedPart};
 ghost use Rattle.interface.specs.Outcomes.{callOf, outcome, Booted};
 ghost use Rattle.interface.specs.Census.{censusOf};
 ghost use Rattle.interface.specs.Demand.{fromBoot, GoesOn, ShowsHeirs};
-use descriptor::Reply;
+use reply::Reply;
 use service::CallWords;
 
 // Any hypercall: its number, the caller's EC number and the six words after it (a call takes as many as it has), the place table and the object table, the caller's message

@@ -14,7 +14,7 @@ use Rattle.words.proofs.SizeLaws.{selectors-few}
 use Rattle.words.proofs.PlaceLaws.{start-rises}
 use Rattle.descriptor.specs.declared.Range.{Range}
 use Rattle.descriptor.specs.declared.Reading.the-variants.{Null, Malformed, Good}
-use Rattle.descriptor.specs.declared.Reply.the-variants.{Success, BadPar}
+use Rattle.reply.specs.declared.Reply.the-variants.{Success, BadPar}
 use Rattle.descriptor.specs.Descriptors.{Proper, describe, reading}
 use Rattle.interface.specs.Places.{Cap, State, live, domainWord, capAt, view}
 use Rattle.interface.specs.Verdicts.{Call, replyOf}

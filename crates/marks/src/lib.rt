@@ -7,7 +7,7 @@ ghost use lib.Count.{ones};
 ghost use lib.ListN.{length, drop};
 ghost use Rattle.words.specs.Sizes.{places};
 ghost use Rattle.marks.specs.PlaceBits.{wordBits, markWords, bitAt, SetIf, RangeToo, NextMarked, markedPlaces};
-use descriptor::Place;
+use layout::Place;
 use words::sizes;
 
 // The bits of a word, and the words that have a bit for each place.

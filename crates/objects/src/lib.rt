@@ -3,14 +3,14 @@ ghost use mathlib.Core.Path.{_≡_};
 ghost use mathlib.Core.List.{[]};
 ghost use Prim.Native.Nat.{_<_, _≤_};
 ghost use Rattle.words.specs.Sizes.{records, recordWords};
-ghost use Rattle.descriptor.specs.Numbers.{numbered};
+ghost use Rattle.layout.specs.Numbers.{numbered};
 ghost use Rattle.interface.specs.Basics.{word, put};
 ghost use Rattle.interface.specs.Places.{countWord, greatestOf, greatest, objectAt, recordTable, namedWords};
 ghost use Rattle.interface.specs.Damage.{pdsBelow};
 ghost use Rattle.interface.specs.Creations.{freeRecord};
 ghost use Rattle.objects.specs.Records.{Sized, recordsIn, wordsOf, storedWord};
-use descriptor::FoundObject;
-use descriptor::ObjectNumber;
+use layout::FoundObject;
+use layout::ObjectNumber;
 use words::sizes;
 
 // The kinds of objects, and that of a free record.

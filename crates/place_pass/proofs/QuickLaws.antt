@@ -9,11 +9,11 @@ use borrow.Author.Tests.{ltb-true, ltb-false, lt-ltb, le-ltb, leb-true, le-leb, 
 use Rattle.words.specs.Sizes.{object, stride, domainOf, spaceOf, places, records, greatestDepth}
 use Rattle.words.proofs.BitLaws.{within-le}
 use Rattle.interface.specs.Basics.{allBelow}
-use Rattle.descriptor.specs.declared.Place.{Place}
-use Rattle.descriptor.specs.declared.FoundPlace.{FoundPlace}
-use Rattle.descriptor.specs.declared.FoundPlace.the-variants.{At, Nowhere}
-use Rattle.descriptor.specs.Numbers.{linked}
-use Rattle.descriptor.proofs.DescriptorLaws.{linked-inside}
+use Rattle.layout.specs.declared.Place.{Place}
+use Rattle.layout.specs.declared.FoundPlace.{FoundPlace}
+use Rattle.layout.specs.declared.FoundPlace.the-variants.{At, Nowhere}
+use Rattle.layout.specs.Numbers.{linked}
+use Rattle.layout.proofs.NumberLaws.{linked-inside}
 use Rattle.interface.specs.Places.{Cap, State, Tables, live, nothing, free, capAt, shown, kindOf, greatestOf, greatest, placesIn}
 use Rattle.interface.specs.Boot.{hypervisor}
 use Rattle.interface.specs.Damage.{sameCap, fixed-place, hasPd, null-place, isResource, parentless-place, live-place, shallow, parentFits}

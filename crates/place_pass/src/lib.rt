@@ -11,9 +11,9 @@ ghost use Rattle.interface.specs.Damage.{fixed-place};
 ghost use Rattle.record_rules.specs.RecordKeeping.{Kept};
 ghost use Rattle.place_rules.specs.PlaceKeeping.{placeKeeps, extentOf, blank, Around};
 ghost use Rattle.place_pass.specs.PassKeeping.{quickKeeps, group, run, Passed};
-use descriptor::Cap;
-use descriptor::FoundPlace;
-use descriptor::Place;
+use layout::Cap;
+use layout::FoundPlace;
+use layout::Place;
 use place_rules::Extent;
 use words::sizes;
 

@@ -8,11 +8,11 @@ use borrow.Author.Tests.{ltb-true, ltb-false, leb-true, leb-false, lt-ltb, le-lt
 use Rattle.words.specs.Sizes.{memory, io, object, spaces, pageOrder, selectors, start, stride, placeOf, domainOf, spaceOf, places, records, greatestDepth}
 use Rattle.words.specs.Permissions.{within}
 use Rattle.words.proofs.PlaceLaws.{space-back, made-so, selector-small}
-use Rattle.descriptor.specs.declared.Place.{Place}
-use Rattle.descriptor.specs.declared.FoundPlace.{FoundPlace}
-use Rattle.descriptor.specs.declared.FoundPlace.the-variants.{At, Nowhere}
-use Rattle.descriptor.specs.Numbers.{linked}
-use Rattle.descriptor.proofs.DescriptorLaws.{linked-out, linked-inside}
+use Rattle.layout.specs.declared.Place.{Place}
+use Rattle.layout.specs.declared.FoundPlace.{FoundPlace}
+use Rattle.layout.specs.declared.FoundPlace.the-variants.{At, Nowhere}
+use Rattle.layout.specs.Numbers.{linked}
+use Rattle.layout.proofs.NumberLaws.{linked-out, linked-inside}
 use Rattle.interface.specs.Places.{Cap, State, live, nothing, free, kindOf, greatestOf, greatest}
 use Rattle.interface.specs.Boot.{hypervisor, bootCap}
 use Rattle.interface.specs.Damage.{sameCap, fixed-place, hasPd, null-place, isResource, live-place, shallow, parentFits, lineageKeeps}

@@ -9,9 +9,9 @@ ghost use Rattle.interface.specs.Places.{nothing, objectTableWords, placeTableW
 ghost use Rattle.interface.specs.Damage.{sameCap, fixed-place, live-place, parentFits, lineageKeeps};
 ghost use Rattle.record_rules.specs.RecordKeeping.{recordsIn};
 ghost use Rattle.place_rules.specs.PlaceKeeping.{greatestAllowed, extentOf, blank, Around};
-use descriptor::Cap;
-use descriptor::FoundPlace;
-use descriptor::Place;
+use layout::Cap;
+use layout::FoundPlace;
+use layout::Place;
 use words::permissions;
 use words::sizes;
 

@@ -10,7 +10,7 @@ use mir.Val.{Fits}
 use borrow.Author.Tests.{ltb-true, not-true, not-false}
 use Rattle.words.specs.Sizes.{greatestDepth}
 use Rattle.words.specs.Permissions.{delegated}
-use Rattle.descriptor.specs.Numbers.{linkOf}
+use Rattle.layout.specs.Numbers.{linkOf}
 use Rattle.interface.specs.Basics.{put}
 use Rattle.interface.specs.Places.{Cap, live, capAt, capTable}
 use Rattle.interface.specs.Effects.{fills}

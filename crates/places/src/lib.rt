@@ -5,8 +5,8 @@ ghost use Rattle.words.specs.Sizes.{places};
 ghost use Rattle.interface.specs.Basics.{put};
 ghost use Rattle.interface.specs.Places.{live, parentless, capAt, capTable};
 ghost use Rattle.places.specs.Table.{Sized, Given};
-use descriptor::Cap;
-use descriptor::Place;
+use layout::Cap;
+use layout::Place;
 use words::permissions;
 use words::sizes;
 

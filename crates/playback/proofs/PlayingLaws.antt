@@ -10,8 +10,8 @@ use lib.ListN.{length, take, drop, length-map, length-append, take-append-drop}
 use lib.Dec.{ltb}
 use lib.Seq.{take-at, take-append-le}
 use borrow.Author.Tests.{ltb-true, ltb-false}
-use Rattle.descriptor.specs.declared.Reply.{Reply}
-use Rattle.descriptor.specs.Replies.{statusOf}
+use Rattle.reply.specs.declared.Reply.{Reply}
+use Rattle.reply.specs.Replies.{statusOf}
 use Rattle.interface.specs.Places.{Tables, sized, tablesOf, tables}
 use Rattle.interface.specs.Boot.{boot}
 use Rattle.interface.specs.Damage.{sound}

@@ -8,8 +8,8 @@ use lib.Dec.{eqb}
 use lib.ListN.{length}
 use borrow.Author.Tests.{eq-eqb, ne-eqb}
 use Rattle.words.specs.Sizes.{domains, records, blockWords}
-use Rattle.descriptor.specs.declared.Reply.{Reply}
-use Rattle.descriptor.specs.declared.Reply.the-variants.{Success, ComTim, BadCap, BadPar, BadCpu}
+use Rattle.reply.specs.declared.Reply.{Reply}
+use Rattle.reply.specs.declared.Reply.the-variants.{Success, ComTim, BadCap, BadPar, BadCpu}
 use Rattle.interface.specs.Basics.{word}
 use Rattle.interface.specs.Places.{Cap, State, PT, ecWord, domainWord, cpuWord, callBit, objectPlace, permitted, capAt, objectAt, placeTable, objectTable, tables, view, placesIn}
 use Rattle.interface.specs.Damage.{isEc}

@@ -4,8 +4,8 @@ ghost use Rattle.interface.specs.Places.{tables};
 ghost use Rattle.interface.specs.Verdicts.{Call};
 ghost use Rattle.capabilities.specs.Callers.{Called};
 ghost use Rattle.portals.specs.Carrying.{Carries};
-use descriptor::ObjectNumber;
-use descriptor::Reply;
+use layout::ObjectNumber;
+use reply::Reply;
 use words::sizes;
 
 // The bit of a portal's permission to be called.

@@ -7,11 +7,11 @@ use native.Mathlib.Omega.{arith}
 use lib.Dec.{eqb, leb, ltb}
 use borrow.Author.Tests.{ltb-true, ltb-false, lt-ltb, leb-true, leb-false, eqb-true, eqb-false, eq-eqb, ne-eqb}
 use Rattle.words.specs.Sizes.{records, recordWords}
-use Rattle.descriptor.specs.declared.ObjectNumber.{ObjectNumber}
-use Rattle.descriptor.specs.declared.FoundObject.{FoundObject}
-use Rattle.descriptor.specs.declared.FoundObject.the-variants.{Numbered, Beyond}
-use Rattle.descriptor.specs.Numbers.{numbered}
-use Rattle.descriptor.proofs.DescriptorLaws.{numbered-past, numbered-inside}
+use Rattle.layout.specs.declared.ObjectNumber.{ObjectNumber}
+use Rattle.layout.specs.declared.FoundObject.{FoundObject}
+use Rattle.layout.specs.declared.FoundObject.the-variants.{Numbered, Beyond}
+use Rattle.layout.specs.Numbers.{numbered}
+use Rattle.layout.proofs.NumberLaws.{numbered-past, numbered-inside}
 use Rattle.interface.specs.Basics.{word, allBelow}
 use Rattle.interface.specs.Places.{State, free, kindOf, kindWord, objectAt, objectTableWords}
 use Rattle.interface.specs.Boot.{rootSc}

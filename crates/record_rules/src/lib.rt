@@ -9,8 +9,8 @@ ghost use Rattle.interface.specs.Places.{SM, objectTableWords, domainWord, obje
 ghost use Rattle.interface.specs.Boot.{cpus};
 ghost use Rattle.interface.specs.Damage.{fixed-record, interrupt-rule, unnamed-rule, used-first, pdsBelow, pd-rule, hasPd, isEc, ec-rule, sc-rule, pt-rule};
 ghost use Rattle.record_rules.specs.RecordKeeping.{recordsIn, clearFrom, restClear, hasWords, recordKeeps, UsedBefore, Numbered, countedPds};
-use descriptor::FoundObject;
-use descriptor::ObjectNumber;
+use layout::FoundObject;
+use layout::ObjectNumber;
 use words::sizes;
 
 // The greatest priority and quantum.

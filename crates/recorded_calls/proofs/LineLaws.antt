@@ -9,8 +9,8 @@ use lib.Seq.{length-take-le, drop-append-le, drop-drop}
 use borrow.Author.Tests.{le-ltb}
 use borrow.Rule.Slice.PartMut.{putMid, same-len-mid}
 use Rattle.io.specs.Counts.{Counts}
-use Rattle.descriptor.specs.declared.Reply.{Reply}
-use Rattle.descriptor.specs.Replies.{statusOf, answerOf}
+use Rattle.reply.specs.declared.Reply.{Reply}
+use Rattle.reply.specs.Replies.{statusOf, answerOf}
 use Rattle.interface.specs.Places.{Tables}
 use Rattle.interface.specs.Verdicts.{Call}
 use Rattle.interface.specs.Rules.{hypercallReply, hypercallTables}

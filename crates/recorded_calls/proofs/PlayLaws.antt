@@ -5,7 +5,7 @@ use mathlib.Core.List.{List, []}
 use lib.ListN.{length}
 use borrow.Author.Tests.{ne-eqb}
 use Rattle.words.specs.Sizes.{blockWords}
-use Rattle.descriptor.specs.declared.Reply.{Reply}
+use Rattle.reply.specs.declared.Reply.{Reply}
 use Rattle.interface.specs.Places.{Tables}
 use Rattle.interface.specs.Verdicts.{CALL}
 use Rattle.interface.specs.Journal.{bodyWord, recordedCall}

@@ -9,9 +9,9 @@ ghost use Rattle.interface.specs.Outcomes.{answered};
 ghost use Rattle.interface.specs.Journal.{recordedCall, spelled};
 ghost use Rattle.journal_lines.specs.Texts.{lineOf, lineBytes, Wrote};
 ghost use Rattle.recorded_calls.specs.OneRecord.{PlaysRecord};
-use descriptor::Reply;
 use interface::numbers;
 use journal_lines::Line;
+use reply::Reply;
 use service::CallWords;
 use words::sizes;
 

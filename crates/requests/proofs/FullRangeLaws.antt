@@ -7,12 +7,12 @@ use borrow.Author.Tests.{eq-eqb}
 use Rattle.words.specs.Sizes.{greatestOrder, selectors, spaces}
 use Rattle.words.specs.Ranges.{aligned}
 use Rattle.words.proofs.RangeLaws.{aligned-divides, range-ends}
-use Rattle.descriptor.specs.declared.Selector.{Selector}
-use Rattle.descriptor.specs.declared.FoundSelector.{FoundSelector}
-use Rattle.descriptor.specs.declared.FoundSelector.the-variants.{Named, Outside}
-use Rattle.descriptor.specs.Numbers.{selected}
+use Rattle.layout.specs.declared.Selector.{Selector}
+use Rattle.layout.specs.declared.FoundSelector.{FoundSelector}
+use Rattle.layout.specs.declared.FoundSelector.the-variants.{Named, Outside}
+use Rattle.layout.specs.Numbers.{selected}
 use Rattle.descriptor.specs.Descriptors.{Proper, describe}
-use Rattle.descriptor.proofs.DescriptorLaws.{selected-named, selected-none}
+use Rattle.layout.proofs.NumberLaws.{selected-named, selected-none}
 use Rattle.requests.specs.Requests.{fullRange}
 
 -- each selector begins a range of order 0

@@ -3,7 +3,7 @@ use Prim.Native.Nat.{ℕ}
 use mathlib.Core.Path.{_≡_, ap₂, _∙_}
 use mathlib.Core.List.{List}
 use Rattle.descriptor.specs.Descriptors.{null}
-use Rattle.descriptor.specs.declared.Reply.{Reply}
+use Rattle.reply.specs.declared.Reply.{Reply}
 use Rattle.interface.specs.Places.{tables}
 use Rattle.interface.specs.Boot.{rootEc, exc}
 use Rattle.interface.specs.Verdicts.{CALL, CREATE-PD}

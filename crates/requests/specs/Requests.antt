@@ -4,7 +4,7 @@ use mathlib.Core.Path.{_≡_}
 use mathlib.Core.List.{List, []}
 use Rattle.words.specs.Sizes.{blockWords}
 use Rattle.descriptor.specs.declared.Range.{Range}
-use Rattle.descriptor.specs.declared.Reply.{Reply}
+use Rattle.reply.specs.declared.Reply.{Reply}
 use Rattle.interface.specs.Basics.{listed, put}
 use Rattle.interface.specs.Places.{tables}
 use Rattle.interface.specs.Message.{delegateBit, delegateWindow, descriptorAt, hotspotField, hypervisorBit, secondAt, typedCount, untypedCount}

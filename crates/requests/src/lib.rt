@@ -10,11 +10,11 @@ ghost use Rattle.interface.specs.Verdicts.{CREATE-PD, CREATE-EC, CREATE-PT, REV
 ghost use Rattle.requests.specs.Requests.{Asked, cpu, delegate, delegateFromHypervisor, fullRange, itemBlock, ItemWords, windowBlock, withOneItem, withoutMessage};
 use boot::ROOT_EC;
 use descriptor::Descriptor;
-use descriptor::FoundSelector;
-use descriptor::Reply;
-use descriptor::Selector;
 use interface::block::DELEGATE_WINDOW;
 use interface::numbers;
+use layout::FoundSelector;
+use layout::Selector;
+use reply::Reply;
 use words::sizes;
 
 // The selector where the root has its own PD.

@@ -12,7 +12,7 @@ use Rattle.words.specs.Sizes.{places as placeCount}
 use Rattle.words.proofs.PlaceLaws.{start-rises, space-back}
 use Rattle.descriptor.specs.declared.Range.{Range}
 use Rattle.descriptor.specs.declared.Reading.the-variants.{Null, Malformed, Good}
-use Rattle.descriptor.specs.declared.Reply.the-variants.{Success, BadPar}
+use Rattle.reply.specs.declared.Reply.the-variants.{Success, BadPar}
 use Rattle.descriptor.specs.Descriptors.{Proper, reading}
 use Rattle.interface.specs.Places.{State, domainWord, capAt, objectAt, capTable, tables, view}
 use Rattle.interface.specs.Effects.{cut, cutCaps, act, run}

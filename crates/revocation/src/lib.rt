@@ -6,10 +6,10 @@ ghost use Rattle.interface.specs.Rules.{Runs};
 ghost use Rattle.interface.specs.Revoke.{revoke as revokeRule};
 ghost use Rattle.capabilities.specs.Callers.{Called};
 use descriptor::Descriptor;
-use descriptor::ObjectNumber;
-use descriptor::Place;
 use descriptor::Reading;
-use descriptor::Reply;
+use layout::ObjectNumber;
+use layout::Place;
+use reply::Reply;
 use words::ranges;
 
 // REVOKE on sound tables: removes the mask's permissions from every strict descendant of the range, and from the range too where the self word is 1.

@@ -9,8 +9,8 @@ use lib.Dec.{eqb, ltb}
 use borrow.Author.Tests.{le-leb, lt-leb, lt-ltb, le-ltb, eq-eqb, ne-eqb}
 use Rattle.words.specs.Fields.{greatestWord}
 use Rattle.words.specs.Sizes.{records}
-use Rattle.descriptor.specs.declared.Reply.{Reply}
-use Rattle.descriptor.specs.declared.Reply.the-variants.{Success, ComTim, BadCap, BadPar}
+use Rattle.reply.specs.declared.Reply.{Reply}
+use Rattle.reply.specs.declared.Reply.the-variants.{Success, ComTim, BadCap, BadPar}
 use Rattle.interface.specs.Basics.{if_then_else_, put, putFrom}
 use Rattle.interface.specs.Places.{Cap, SM, domainWord, countWord, objectPlace, permitted, capAt, objectAt, recordTable, tables, view}
 use Rattle.interface.specs.Effects.{count, act, run}

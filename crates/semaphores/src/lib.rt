@@ -5,8 +5,8 @@ ghost use Rattle.interface.specs.Verdicts.{Call};
 ghost use Rattle.interface.specs.Rules.{Runs};
 ghost use Rattle.interface.specs.Semaphores.{smCtrl};
 ghost use Rattle.capabilities.specs.Callers.{Called};
-use descriptor::ObjectNumber;
-use descriptor::Reply;
+use layout::ObjectNumber;
+use reply::Reply;
 
 pub const UP: u32 = 0;
 

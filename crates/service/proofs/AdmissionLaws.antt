@@ -4,17 +4,17 @@ use mathlib.Core.Path.{_≡_, refl, sym, ap, _∙_, subst}
 use mathlib.Core.Bool.{true, false}
 use mathlib.Core.List.{List}
 use native.Mathlib.Omega.{arith}
-use Rattle.descriptor.specs.Replies.{statusOf}
-use Rattle.descriptor.specs.declared.Reply.{Reply}
-use Rattle.descriptor.specs.declared.Reply.the-variants.{BadHyp, BadCaller}
-use Rattle.descriptor.specs.declared.ObjectNumber.{ObjectNumber}
+use Rattle.reply.specs.Replies.{statusOf}
+use Rattle.reply.specs.declared.Reply.{Reply}
+use Rattle.reply.specs.declared.Reply.the-variants.{BadHyp, BadCaller}
+use Rattle.layout.specs.declared.ObjectNumber.{ObjectNumber}
 use lib.Dec.{ltb}
 use lib.ListN.{length}
 use borrow.Author.Tests.{ltb-true, lt-ltb, eq-eqb, ne-eqb}
 use Rattle.words.specs.Sizes.{records}
-use Rattle.descriptor.specs.Numbers.{numbered}
-use Rattle.descriptor.specs.declared.FoundObject.the-variants.{Numbered, Beyond}
-use Rattle.descriptor.proofs.DescriptorLaws.{numbered-so, numbered-inside}
+use Rattle.layout.specs.Numbers.{numbered}
+use Rattle.layout.specs.declared.FoundObject.the-variants.{Numbered, Beyond}
+use Rattle.layout.proofs.NumberLaws.{numbered-so, numbered-inside}
 use Rattle.interface.specs.Places.{State, Tables, sized, tablesOf, EC, kindWord, objectAt, objectTableWords, tables, view}
 use Rattle.interface.specs.Damage.{sound, isEc}
 use Rattle.interface.specs.Effects.{run}

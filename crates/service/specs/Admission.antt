@@ -2,7 +2,7 @@
 use Prim.Native.Nat.{ℕ}
 use mathlib.Core.Bool.{Bool, true, false}
 use mathlib.Core.List.{List}
-use Rattle.descriptor.specs.declared.Reply.the-variants.{BadHyp, BadCaller}
+use Rattle.reply.specs.declared.Reply.the-variants.{BadHyp, BadCaller}
 use Rattle.interface.specs.Places.{view}
 use Rattle.interface.specs.Basics.{if_then_else_}
 use Rattle.interface.specs.Damage.{isEc}

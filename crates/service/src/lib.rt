@@ -6,10 +6,10 @@ ghost use Rattle.interface.specs.Damage.{sound};
 ghost use Rattle.capabilities.specs.Callers.{Called};
 ghost use Rattle.service.specs.Admission.{isBuilt, admission};
 ghost use Rattle.service.specs.Serving.{callWith, Serves};
-use descriptor::FoundObject;
-use descriptor::ObjectNumber;
-use descriptor::Reply;
 use interface::numbers;
+use layout::FoundObject;
+use layout::ObjectNumber;
+use reply::Reply;
 
 // The six words after a hypercall's number and its caller: a call takes as many as it has.
 pub struct CallWords {

@@ -9,7 +9,7 @@ use lib.ListN.{getD, drop}
 use lib.Seq.{drop-cons}
 use borrow.Author.Tests.{eqb-true, lt-ltb, le-ltb, not-true}
 use Rattle.words.specs.Sizes.{places, records}
-use Rattle.descriptor.specs.declared.Fault.the-variants.{NoFault, Lengths, AtRecord, AtPlace}
+use Rattle.reply.specs.declared.Fault.the-variants.{NoFault, Lengths, AtRecord, AtPlace}
 use Rattle.interface.specs.Basics.{allBelow}
 use Rattle.interface.specs.Places.{State, Tables, sized, shown}
 use Rattle.interface.specs.Damage.{Rule, of-records, fixed-record, interrupt-rule, unnamed-rule, used-first, pdsBelow, pd-rule, hasPd, isEc, ec-rule, sc-rule, pt-rule, rulesOfDamage, firstFault, fault}

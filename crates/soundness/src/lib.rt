@@ -1,8 +1,8 @@
 // The damage test: whether tables are sound, in one pass over the places, and which rule is the first that they break.
 ghost use mathlib.Core.Path.{_≡_};
 ghost use Rattle.interface.specs.Damage.{sound, fault};
-use descriptor::Fault;
 use record_rules::CountedPds;
+use reply::Fault;
 use words::sizes;
 
 mod faults;

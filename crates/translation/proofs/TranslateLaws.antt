@@ -13,17 +13,17 @@ use Rattle.words.specs.Permissions.{delegated}
 use Rattle.words.specs.Ranges.{aligned}
 use Rattle.words.proofs.SizeLaws.{selectors-few}
 use Rattle.words.proofs.PlaceLaws.{is-place, space-back, selector-small, made-so}
-use Rattle.descriptor.specs.declared.Place.{Place}
-use Rattle.descriptor.specs.declared.FoundPlace.{FoundPlace}
-use Rattle.descriptor.specs.declared.FoundPlace.the-variants.{At, Nowhere}
+use Rattle.layout.specs.declared.Place.{Place}
+use Rattle.layout.specs.declared.FoundPlace.{FoundPlace}
+use Rattle.layout.specs.declared.FoundPlace.the-variants.{At, Nowhere}
 use Rattle.descriptor.specs.declared.Range.{Range}
 use Rattle.descriptor.specs.declared.Match.the-variants.{Both}
 use Rattle.descriptor.specs.declared.Received.{Received}
 use Rattle.descriptor.specs.declared.Received.the-variants.{NullItem, Shows}
 use Rattle.descriptor.specs.declared.Reason.the-variants.{TranslationBroke}
-use Rattle.descriptor.specs.Numbers.{linked as placeLinked}
+use Rattle.layout.specs.Numbers.{linked as placeLinked}
 use Rattle.descriptor.specs.Descriptors.{Proper}
-use Rattle.descriptor.proofs.DescriptorLaws.{linked-out, linked-inside}
+use Rattle.layout.proofs.NumberLaws.{linked-out, linked-inside}
 use Rattle.interface.specs.Basics.{if_then_else_, allBelow}
 use Rattle.interface.specs.Places.{Cap, capAt, placesIn}
 use Rattle.interface.specs.Effects.{chain, ancestors, among}

@@ -8,12 +8,12 @@ use lib.Dec.{leb, ltb}
 use lib.ListN.{length, drop}
 use borrow.Author.Tests.{ltb-true, ltb-false, lt-ltb, le-ltb, le-leb, lt-leb, not-true, not-false}
 use Rattle.words.specs.Sizes.{places, spaceOf}
-use Rattle.descriptor.specs.declared.Place.{Place}
-use Rattle.descriptor.specs.declared.FoundPlace.{FoundPlace}
-use Rattle.descriptor.specs.declared.FoundPlace.the-variants.{At, Nowhere}
-use Rattle.descriptor.specs.declared.Reply.the-variants.{Success, BadPar, BadCap, Short}
-use Rattle.descriptor.specs.Numbers.{placed}
-use Rattle.descriptor.proofs.DescriptorLaws.{placed-at, placed-inside}
+use Rattle.layout.specs.declared.Place.{Place}
+use Rattle.layout.specs.declared.FoundPlace.{FoundPlace}
+use Rattle.layout.specs.declared.FoundPlace.the-variants.{At, Nowhere}
+use Rattle.reply.specs.declared.Reply.the-variants.{Success, BadPar, BadCap, Short}
+use Rattle.layout.specs.Numbers.{placed}
+use Rattle.layout.proofs.NumberLaws.{placed-at, placed-inside}
 use Rattle.interface.specs.Places.{Cap, live, capAt, placesIn}
 use Rattle.interface.specs.Effects.{below}
 use Rattle.interface.specs.Census.{descendants, counted}

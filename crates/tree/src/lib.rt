@@ -10,11 +10,11 @@ ghost use Rattle.marks.specs.PlaceBits.{bitAt};
 ghost use Rattle.places.specs.Table.{Sized};
 ghost use Rattle.descent.specs.Walks.{Linked, InSpace};
 ghost use Rattle.tree.specs.Stripping.{strippedWhere};
-use descriptor::Cap;
-use descriptor::FoundPlace;
-use descriptor::Place;
-use descriptor::Reply;
+use layout::Cap;
+use layout::FoundPlace;
+use layout::Place;
 use marks::MARK_WORDS;
+use reply::Reply;
 use words::permissions;
 use words::sizes;
 

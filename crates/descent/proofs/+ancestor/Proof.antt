@@ -3,8 +3,8 @@ use Prim.Native.Nat.{ℕ, _<_}
 use borrow.Author.Needs.{needs}
 use borrow.Fn.Kinds.{In}
 use borrow.Fn.PlainCycle.{Measures, is, falls, and}
-use Rattle.descriptor.proofs.Place.is_among.Reads as is-among-reads
-use Rattle.descriptor.proofs.Place.linked.Reads as linked-reads
+use Rattle.layout.proofs.Place.is_among.Reads as is-among-reads
+use Rattle.layout.proofs.Place.linked.Reads as linked-reads
 use Rattle.interface.specs.Places.{capAt}
 use Rattle.places.proofs.load.Reads as load-reads
 use Rattle.descent.proofs.WalkLaws.{parent-small, walk-shorter, walk-ends, walk-finds, walk-passes}

@@ -9,9 +9,9 @@ use lib.Dec.{eqb}
 use lib.ListN.{List·getD-eq-default}
 use borrow.Author.Tests.{eqb-false}
 use Rattle.words.specs.Sizes.{places, records, recordWords}
-use Rattle.descriptor.specs.Replies.{statusOf}
-use Rattle.descriptor.specs.declared.Reply.{Reply}
-use Rattle.descriptor.specs.declared.Reply.the-variants.{Success, BadHyp, Damaged, BadCaller}
+use Rattle.reply.specs.Replies.{statusOf}
+use Rattle.reply.specs.declared.Reply.{Reply}
+use Rattle.reply.specs.declared.Reply.the-variants.{Success, BadHyp, Damaged, BadCaller}
 use Rattle.interface.specs.Basics.{if_then_else_, word, put, putFrom}
 use Rattle.interface.specs.Places.{Cap, State, Tables, parentless, kindOf, greatestOf, sized, shown, tablesOf}
 use Rattle.interface.specs.Boot.{boot}

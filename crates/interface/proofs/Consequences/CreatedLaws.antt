@@ -8,7 +8,7 @@ use lib.Dec.{ltb}
 use lib.ListN.{length, List·getD-eq-default}
 use borrow.Author.Tests.{ltb-true}
 use Rattle.words.specs.Sizes.{domains, domainOf}
-use Rattle.descriptor.specs.declared.Reply.the-variants.{Success}
+use Rattle.reply.specs.declared.Reply.the-variants.{Success}
 use Rattle.descriptor.proofs.DescriptorLaws.{good-proper}
 use Rattle.interface.specs.Basics.{word}
 use Rattle.interface.specs.Places.{State, parentless, PD, EC, SC, PT, SM, kindWord, domainWord, cpuWord, eventBaseWord, ecWord, priorityWord, quantumWord, mtdWord, entryWord, identifierWord, countWord, namedWords, greatestOf, kindOf}

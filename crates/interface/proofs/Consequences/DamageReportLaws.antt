@@ -9,8 +9,8 @@ use lib.Dec.{eqb, ltb}
 use lib.ListN.{length}
 use borrow.Author.Tests.{ltb-true, eq-eqb}
 use Rattle.words.specs.Sizes.{places, records}
-use Rattle.descriptor.specs.declared.Fault.{Fault}
-use Rattle.descriptor.specs.declared.Fault.the-variants.{NoFault, Lengths, AtRecord, AtPlace}
+use Rattle.reply.specs.declared.Fault.{Fault}
+use Rattle.reply.specs.declared.Fault.the-variants.{NoFault, Lengths, AtRecord, AtPlace}
 use Rattle.interface.specs.Basics.{all}
 use Rattle.interface.specs.Places.{State, Tables, placeTableWords, objectTableWords, sized, shown}
 use Rattle.interface.specs.Damage.{Rule, rulesOfDamage, keeps, soundState, sound, firstFault, fault}

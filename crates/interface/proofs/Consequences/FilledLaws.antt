@@ -14,8 +14,8 @@ use Rattle.descriptor.specs.Descriptors.{Proper}
 use Rattle.descriptor.specs.declared.Range.{Range}
 use Rattle.descriptor.specs.declared.Reading.{Reading}
 use Rattle.descriptor.specs.declared.Reading.the-variants.{Null, Malformed, Good}
-use Rattle.descriptor.specs.declared.Reply.{Reply}
-use Rattle.descriptor.specs.declared.Reply.the-variants.{BadHyp, BadPar, Damaged}
+use Rattle.reply.specs.declared.Reply.{Reply}
+use Rattle.reply.specs.declared.Reply.the-variants.{BadHyp, BadPar, Damaged}
 use Rattle.descriptor.proofs.DescriptorLaws.{good-proper}
 use Rattle.interface.specs.Basics.{word}
 use Rattle.interface.specs.Places.{Cap, State, live, parentless, free, kindWord, kindOf, greatestOf, objectPlace, objectIn}

@@ -1,5 +1,5 @@
 -- What CALL's items deliver: how far a message has come before each offset, one delegation at a time.
-use Rattle.descriptor.specs.Replies.{statusOf}
+use Rattle.reply.specs.Replies.{statusOf}
 use Prim.Native.Nat.{ℕ, suc, _+_, _*_, _≤_, _<_}
 use mathlib.Core.Path.{_≡_, refl, sym, ap, _∙_}
 use mathlib.Core.Bool.{true, false, not, _&&_, Bool}
@@ -18,7 +18,7 @@ use Rattle.descriptor.specs.declared.Match.{Match}
 use Rattle.descriptor.specs.declared.Match.the-variants.{Both, Neither}
 use Rattle.descriptor.specs.declared.Received.the-variants.{NullItem}
 use Rattle.descriptor.specs.declared.Reason.{Reason}
-use Rattle.descriptor.specs.declared.Reply.the-variants.{ComTim, BadCap, BadPar, BadCpu, Success}
+use Rattle.reply.specs.declared.Reply.the-variants.{ComTim, BadCap, BadPar, BadCpu, Success}
 use Rattle.descriptor.proofs.DescriptorLaws.{matched-both, matched-good}
 use Rattle.interface.specs.Basics.{word, listed}
 use Rattle.interface.specs.Places.{Cap, State, live, PT, ecWord, cpuWord, callBit, objectPlace, permitted, objectIn, domainWord}

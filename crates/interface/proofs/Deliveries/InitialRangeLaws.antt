@@ -1,6 +1,6 @@
 -- What CREATE_PD's initial range delivers: its delegations go from one domain to another, so each is what it would be alone.
-use Rattle.descriptor.specs.Replies.{statusOf}
-use Rattle.descriptor.specs.declared.Reply.the-variants.{Success, BadCap, BadCpu, BadPar, NoRoom}
+use Rattle.reply.specs.Replies.{statusOf}
+use Rattle.reply.specs.declared.Reply.the-variants.{Success, BadCap, BadCpu, BadPar, NoRoom}
 use Prim.Native.Nat.{ℕ, zero, suc, _+_, _^_, _<_}
 use mathlib.Core.Path.{_≡_, refl, sym, ap, _∙_, subst}
 use mathlib.Core.Bool.{Bool, true, false, not, _&&_}

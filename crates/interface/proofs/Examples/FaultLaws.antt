@@ -8,8 +8,8 @@ use lib.Dec.{leb, ltb}
 use lib.ListN.{take, drop}
 use borrow.Author.Tests.{leb-true, lt-ltb, ltb-true, ltb-false}
 use Rattle.words.specs.Sizes.{places, records}
-use Rattle.descriptor.specs.declared.Fault.{Fault}
-use Rattle.descriptor.specs.declared.Fault.the-variants.{NoFault, AtRecord, AtPlace}
+use Rattle.reply.specs.declared.Fault.{Fault}
+use Rattle.reply.specs.declared.Fault.the-variants.{NoFault, AtRecord, AtPlace}
 use Rattle.interface.specs.Basics.{if_then_else_, lowest}
 use Rattle.interface.specs.Places.{Cap, State, live}
 use Rattle.interface.specs.Boot.{boot}

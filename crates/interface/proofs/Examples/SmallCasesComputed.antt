@@ -4,7 +4,7 @@ use mathlib.Core.Path.{_≡_, refl, _∙_}
 use mathlib.Core.Bool.{true, false}
 use native.Mathlib.Omega.{arith}
 use Rattle.words.specs.Sizes.{places}
-use Rattle.descriptor.specs.declared.Fault.the-variants.{NoFault, AtRecord}
+use Rattle.reply.specs.declared.Fault.the-variants.{NoFault, AtRecord}
 use Rattle.interface.specs.Basics.{put, listed, lowest}
 use Rattle.interface.specs.Places.{Cap}
 use Rattle.interface.specs.Boot.{boot}

@@ -11,7 +11,7 @@ use Rattle.words.specs.Sizes.{memory, io, spaceOf, places}
 use Rattle.words.specs.Permissions.{revoked}
 use Rattle.words.proofs.BitLaws.{revoked-ones}
 use Rattle.words.proofs.PlaceLaws.{made-so}
-use Rattle.descriptor.specs.declared.Reply.the-variants.{Success}
+use Rattle.reply.specs.declared.Reply.the-variants.{Success}
 use Rattle.interface.specs.Basics.{if_then_else_, any}
 use Rattle.interface.specs.Places.{State, Tables, live, nothing, capAt, placeTable, objectTable, tablesOf, greatest, greatestOf, kindOf}
 use Rattle.interface.specs.Effects.{cut, chain, ancestors, among, below, stripped, cutCaps, act, run}

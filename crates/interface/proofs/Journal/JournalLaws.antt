@@ -9,7 +9,7 @@ use lib.Dec.{eqb, ltb}
 use lib.ListN.{length, take, drop, length-append, take-append-drop}
 use lib.Seq.{length-take-le, take-at, drop-at}
 use borrow.Author.Tests.{ltb-false, le-ltb}
-use Rattle.descriptor.specs.Replies.{statusOf, answerOf}
+use Rattle.reply.specs.Replies.{statusOf, answerOf}
 use Rattle.interface.specs.Places.{State, Tables, tablesOf}
 use Rattle.interface.specs.Boot.{boot}
 use Rattle.interface.specs.Effects.{run}

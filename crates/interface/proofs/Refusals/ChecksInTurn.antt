@@ -7,9 +7,9 @@ use mathlib.Core.List.{List, [], _∷_}
 use native.Mathlib.Omega.{arith}
 use lib.Dec.{eqb, leb, ltb}
 use borrow.Author.Tests.{ltb-true, ltb-false, leb-true, leb-false, eqb-true, eqb-false, not-true, not-false}
-use Rattle.descriptor.specs.Replies.{statusOf}
-use Rattle.descriptor.specs.declared.Reply.{Reply}
-use Rattle.descriptor.specs.declared.Reply.the-variants.{Success, ComTim, BadCap, BadPar, BadCpu, NoRoom}
+use Rattle.reply.specs.Replies.{statusOf}
+use Rattle.reply.specs.declared.Reply.{Reply}
+use Rattle.reply.specs.declared.Reply.the-variants.{Success, ComTim, BadCap, BadPar, BadCpu, NoRoom}
 use Rattle.interface.specs.Basics.{if_then_else_, member}
 use Rattle.interface.specs.Verdicts.{Verdict, require_else_then_, replyOf}
 use Rattle.interface.proofs.Basics.BoolLaws.{cases, not-both, and-left, and-right, or-none-left, or-none-right, either-way}

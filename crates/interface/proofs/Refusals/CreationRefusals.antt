@@ -11,9 +11,9 @@ use Rattle.words.specs.Sizes.{domains, object, records}
 use Rattle.descriptor.specs.declared.Range.{Range}
 use Rattle.descriptor.specs.declared.Reading.{Reading}
 use Rattle.descriptor.specs.declared.Reading.the-variants.{Null, Malformed, Good}
-use Rattle.descriptor.specs.Replies.{statusOf}
-use Rattle.descriptor.specs.declared.Reply.{Reply}
-use Rattle.descriptor.specs.declared.Reply.the-variants.{Success, BadCap, BadPar, BadCpu, NoRoom}
+use Rattle.reply.specs.Replies.{statusOf}
+use Rattle.reply.specs.declared.Reply.{Reply}
+use Rattle.reply.specs.declared.Reply.the-variants.{Success, BadCap, BadPar, BadCpu, NoRoom}
 use Rattle.interface.specs.Basics.{any, member}
 use Rattle.interface.specs.Places.{State, live, PD, EC, SC, PT, SM, createBit, bindScBit, bindPtBit, permitted}
 use Rattle.interface.specs.Boot.{cpus}

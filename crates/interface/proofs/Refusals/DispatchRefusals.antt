@@ -6,9 +6,9 @@ use mathlib.Core.Bool.{Bool, true, false, _||_, true≢false, false≢true}
 use mathlib.Core.List.{List}
 use native.Mathlib.Omega.{arith}
 use lib.Dec.{eqb}
-use Rattle.descriptor.specs.Replies.{statusOf}
-use Rattle.descriptor.specs.declared.Reply.{Reply}
-use Rattle.descriptor.specs.declared.Reply.the-variants.{BadHyp, BadCaller}
+use Rattle.reply.specs.Replies.{statusOf}
+use Rattle.reply.specs.declared.Reply.{Reply}
+use Rattle.reply.specs.declared.Reply.the-variants.{BadHyp, BadCaller}
 use Rattle.interface.specs.Basics.{if_then_else_, any, member}
 use Rattle.interface.specs.Places.{State}
 use Rattle.interface.specs.Damage.{soundState, isEc}

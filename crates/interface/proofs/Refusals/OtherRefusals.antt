@@ -10,11 +10,11 @@ use lib.ListN.{length}
 use borrow.Author.Tests.{ltb-true, ltb-false, lt-leb, eqb-true, eqb-false, not-false}
 use Rattle.words.specs.Fields.{greatestWord}
 use Rattle.words.specs.Sizes.{places}
-use Rattle.descriptor.specs.Replies.{statusOf, answerOf}
+use Rattle.reply.specs.Replies.{statusOf, answerOf}
 use Rattle.descriptor.specs.declared.Reading.{Reading}
 use Rattle.descriptor.specs.declared.Reading.the-variants.{Null, Malformed, Good}
-use Rattle.descriptor.specs.declared.Reply.{Reply}
-use Rattle.descriptor.specs.declared.Reply.the-variants.{Success, ComTim, BadCap, BadPar, NoRoom, Short}
+use Rattle.reply.specs.declared.Reply.{Reply}
+use Rattle.reply.specs.declared.Reply.the-variants.{Success, ComTim, BadCap, BadPar, NoRoom, Short}
 use Rattle.interface.specs.Basics.{if_then_else_, put, putFrom, any, member}
 use Rattle.interface.specs.Places.{State, Tables, live, shown, SM, countWord, objectIn}
 use Rattle.interface.specs.Damage.{soundState, sound, isEc}

@@ -10,9 +10,9 @@ use borrow.Author.Tests.{ltb-true, eqb-true, eq-eqb}
 use Rattle.words.specs.Fields.{bits}
 use Rattle.words.specs.Sizes.{blockWords}
 use Rattle.words.specs.Permissions.{permits}
-use Rattle.descriptor.specs.Replies.{statusOf}
-use Rattle.descriptor.specs.declared.Reply.{Reply}
-use Rattle.descriptor.specs.declared.Reply.the-variants.{Success, ComTim, BadCap, BadPar, BadCpu}
+use Rattle.reply.specs.Replies.{statusOf}
+use Rattle.reply.specs.declared.Reply.{Reply}
+use Rattle.reply.specs.declared.Reply.the-variants.{Success, ComTim, BadCap, BadPar, BadCpu}
 use Rattle.interface.specs.Basics.{any, member}
 use Rattle.interface.specs.Places.{State, PT, domainWord, cpuWord, callBit, kindOf, objectPlace, permitted, objectIn}
 use Rattle.interface.specs.Damage.{soundState, isEc}

@@ -12,7 +12,7 @@ use Rattle.words.proofs.PlaceLaws.{domain-back}
 use Rattle.descriptor.specs.declared.Range.{Range}
 use Rattle.descriptor.specs.declared.Reading.{Reading}
 use Rattle.descriptor.specs.declared.Reading.the-variants.{Null, Malformed, Good}
-use Rattle.descriptor.specs.declared.Reply.{Reply}
+use Rattle.reply.specs.declared.Reply.{Reply}
 use Rattle.descriptor.specs.Descriptors.{Proper}
 use Rattle.descriptor.proofs.DescriptorLaws.{good-proper}
 use Rattle.interface.specs.Basics.{word, allBelow}

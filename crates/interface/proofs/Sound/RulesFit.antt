@@ -5,8 +5,8 @@ use mathlib.Core.Bool.{true, false, not}
 use mathlib.Core.List.{[]}
 use lib.Dec.{eqb}
 use borrow.Author.Tests.{eqb-true}
-use Rattle.descriptor.specs.declared.Reply.{Reply}
-use Rattle.descriptor.specs.declared.Reply.the-variants.{Damaged, BadPar, BadCaller}
+use Rattle.reply.specs.declared.Reply.{Reply}
+use Rattle.reply.specs.declared.Reply.the-variants.{Damaged, BadPar, BadCaller}
 use Rattle.interface.specs.Basics.{if_then_else_}
 use Rattle.interface.specs.Places.{State}
 use Rattle.interface.specs.Damage.{isEc, soundState}

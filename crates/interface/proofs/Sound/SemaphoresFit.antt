@@ -7,7 +7,7 @@ use native.Mathlib.Omega.{arith}
 use lib.Dec.{eqb, leb}
 use borrow.Author.Tests.{eqb-true, eqb-false, le-leb}
 use Rattle.words.specs.Sizes.{records, recordWords}
-use Rattle.descriptor.specs.declared.Reply.{Reply}
+use Rattle.reply.specs.declared.Reply.{Reply}
 use Rattle.interface.specs.Basics.{put, putFrom}
 use Rattle.interface.specs.Places.{State, SM, kindWord, countWord, namedWords, kindOf, objectPlace, permitted, objectIn}
 use Rattle.interface.specs.Damage.{unnamed-rule, isEc, ec-rule, sc-rule, pt-rule}

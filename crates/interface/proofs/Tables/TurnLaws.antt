@@ -6,7 +6,7 @@ use mathlib.Core.List.{List, [], _∷_, _++_}
 use native.Mathlib.Omega.{arith}
 use Rattle.words.specs.Sizes.{domains, spaces, selectors, placeOf, domainOf}
 use Rattle.words.proofs.PlaceLaws.{is-place, domain-back, space-back}
-use Rattle.descriptor.specs.declared.Reply.{Reply}
+use Rattle.reply.specs.declared.Reply.{Reply}
 use Rattle.interface.specs.Basics.{listed}
 use Rattle.interface.specs.Places.{State}
 use Rattle.interface.specs.Damage.{hasPd}

@@ -4,9 +4,9 @@ use mathlib.Core.Bool.{Bool, true, false, true≢false}
 use mathlib.Core.List.{List}
 use Prim.Native.Nat.{ℕ}
 use native.Mathlib.Omega.{arith}
-use Rattle.descriptor.specs.Replies.{statusOf}
-use Rattle.descriptor.specs.declared.Reply.{Reply}
-use Rattle.descriptor.specs.declared.Reply.the-variants.{Success, Damaged, BadCaller}
+use Rattle.reply.specs.Replies.{statusOf}
+use Rattle.reply.specs.declared.Reply.{Reply}
+use Rattle.reply.specs.declared.Reply.the-variants.{Success, Damaged, BadCaller}
 use Rattle.interface.specs.Places.{State, Tables}
 use Rattle.interface.specs.Damage.{soundState, isEc}
 use Rattle.interface.specs.Effects.{run}

@@ -8,10 +8,10 @@ use lib.Dec.{eqb}
 use borrow.Author.Needs.{needs}
 use borrow.Author.Tests.{eq-eqb, ne-eqb}
 use Rattle.words.specs.Sizes.{records}
-use Rattle.descriptor.specs.declared.ObjectNumber.{ObjectNumber}
-use Rattle.descriptor.specs.declared.FoundObject.the-variants.{Numbered, Beyond}
-use Rattle.descriptor.specs.Numbers.{numbered}
-use Rattle.descriptor.proofs.DescriptorLaws.{numbered-so, numbered-beyond}
+use Rattle.layout.specs.declared.ObjectNumber.{ObjectNumber}
+use Rattle.layout.specs.declared.FoundObject.the-variants.{Numbered, Beyond}
+use Rattle.layout.specs.Numbers.{numbered}
+use Rattle.layout.proofs.NumberLaws.{numbered-so, numbered-beyond}
 use Rattle.interface.specs.Basics.{lowest}
 use Rattle.interface.specs.Places.{free, kindWord, objectAt}
 use Rattle.interface.specs.Creations.{freeRecord}

@@ -3,7 +3,7 @@ use mathlib.Core.Path.{sym, ap, _∙_}
 use native.Mathlib.Omega.{arith}
 use denote.Ref.{now}
 use borrow.Author.Needs.{needs}
-use Rattle.descriptor.proofs.DescriptorLaws.{numbered-inside, numbered-past}
+use Rattle.layout.proofs.NumberLaws.{numbered-inside, numbered-past}
 use Rattle.interface.specs.Places.{objectAt}
 use Rattle.objects.proofs.RecordTableLaws.{object-at-end}
 use Rattle.objects.proofs.load_named.Statement.{statement}

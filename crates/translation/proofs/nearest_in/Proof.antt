@@ -2,7 +2,7 @@
 use mathlib.Core.Path.{sym, ap, _∙_}
 use denote.Ref.{now}
 use borrow.Author.Needs.{needs}
-use Rattle.descriptor.specs.Numbers.{linked}
+use Rattle.layout.specs.Numbers.{linked}
 use Rattle.interface.specs.Places.{capAt}
 use Rattle.descent.proofs.LinkLaws.{nearest-first-among}
 use Rattle.translation.proofs.nearest_in.Statement.{statement}

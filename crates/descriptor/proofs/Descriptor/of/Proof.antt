@@ -1,4 +1,5 @@
 -- The fields of a proper range are small enough that no part of the sum leaves a word.
+use borrow.Author.Needs.{needs}
 use native.Mathlib.Omega.{arith}
 use Rattle.descriptor.proofs.DescriptorLaws.{proper-order, proper-end}
 use Rattle.descriptor.proofs.Descriptor.of.Statement.{statement}
@@ -19,14 +20,17 @@ mul-t8 c = omega (arith, proper-order (c .pre))
 add-t9 : tie.Need-add-t9
 add-t9 c = omega (arith, proper-order (c .pre))
 
-mul-t10 : tie.Need-mul-t10
-mul-t10 c = omega (arith, proper-end (c .before .pre))
+number-requires : tie.Need-number-requires
+number-requires c κs = search needs
 
-add-t11 : tie.Need-add-t11
-add-t11 c = omega (arith, proper-order (c .before .pre), proper-end (c .before .pre))
+mul-t11 : tie.Need-mul-t11
+mul-t11 c = omega (arith, c .number .ensures, proper-end (c .before .pre))
+
+add-t12 : tie.Need-add-t12
+add-t12 c = omega (arith, c .number .ensures, proper-order (c .before .pre), proper-end (c .before .pre))
 
 returns : tie.Need-returns
-returns c = omega arith
+returns c = omega (arith, c .number .ensures)
 
 pub of-spec : {M : Type 1} → statement M
-of-spec = tie.close (tie.spec add-t5 mul-t6 add-t7 mul-t8 add-t9 mul-t10 add-t11 returns)
+of-spec = tie.close (tie.spec add-t5 mul-t6 add-t7 mul-t8 add-t9 number-requires mul-t11 add-t12 returns)

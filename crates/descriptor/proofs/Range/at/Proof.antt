@@ -4,11 +4,14 @@ use Rattle.descriptor.proofs.DescriptorLaws.{proper-end}
 use Rattle.descriptor.proofs.Range.at.Statement.{statement}
 use Rattle.descriptor.proofs.Range.at.Tie as tie
 
-add-t3 : tie.Need-add-t3
-add-t3 c = omega (arith, proper-end (c .before .pre .0))
+add-counted : tie.Need-add-counted
+add-counted c = omega (arith, proper-end (c .before .pre .0))
+
+counted-requires : tie.Need-counted-requires
+counted-requires c κs = omega (arith, proper-end (c .before .pre .0))
 
 returns : tie.Need-returns
 returns c = omega arith
 
 pub at-spec : {M : Type 1} → statement M
-at-spec = tie.close (tie.spec add-t3 returns)
+at-spec = tie.close (tie.spec add-counted counted-requires returns)

@@ -1,9 +1,0 @@
-use Rattle.interface.proofs.Consequences.ConsequenceLaws.{blocks-stay}
-use Rattle.interface.proofs.blocks_stay.Statement.{statement}
-use Rattle.interface.proofs.blocks_stay.Tie as tie
-
-returns : tie.Need-returns
-returns c = blocks-stay
-
-pub blocks-stay-spec : {M : Type 1} → statement M
-blocks-stay-spec = tie.close (tie.spec returns)

@@ -1,9 +1,0 @@
-use Rattle.interface.proofs.Refusals.RefusalLaws.{call-refused-exactly}
-use Rattle.interface.proofs.call_refused_exactly.Statement.{statement}
-use Rattle.interface.proofs.call_refused_exactly.Tie as tie
-
-returns : tie.Need-returns
-returns c = call-refused-exactly
-
-pub call-refused-exactly-spec : {M : Type 1} → statement M
-call-refused-exactly-spec = tie.close (tie.spec returns)

@@ -1,9 +1,0 @@
-use Rattle.interface.proofs.Examples.Computed.{journal-example}
-use Rattle.interface.proofs.journal_example.Statement.{statement}
-use Rattle.interface.proofs.journal_example.Tie as tie
-
-returns : tie.Need-returns
-returns c = journal-example
-
-pub journal-example-spec : {M : Type 1} → statement M
-journal-example-spec = tie.close (tie.spec returns)

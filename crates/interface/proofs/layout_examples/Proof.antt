@@ -1,9 +1,0 @@
-use Rattle.interface.proofs.Examples.Computed.{layout-computed}
-use Rattle.interface.proofs.layout_examples.Statement.{statement}
-use Rattle.interface.proofs.layout_examples.Tie as tie
-
-returns : tie.Need-returns
-returns c = layout-computed
-
-pub layout-examples-spec : {M : Type 1} → statement M
-layout-examples-spec = tie.close (tie.spec returns)

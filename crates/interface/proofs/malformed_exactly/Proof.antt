@@ -1,9 +1,0 @@
-use Rattle.interface.proofs.Refusals.MalformedLaws.{malformed-exactly}
-use Rattle.interface.proofs.malformed_exactly.Statement.{statement}
-use Rattle.interface.proofs.malformed_exactly.Tie as tie
-
-returns : tie.Need-returns
-returns c = malformed-exactly
-
-pub malformed-exactly-spec : {M : Type 1} → statement M
-malformed-exactly-spec = tie.close (tie.spec returns)

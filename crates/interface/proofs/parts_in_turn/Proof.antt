@@ -1,9 +1,0 @@
-use Rattle.interface.proofs.Journal.JournalLaws.{parts-in-turn}
-use Rattle.interface.proofs.parts_in_turn.Statement.{statement}
-use Rattle.interface.proofs.parts_in_turn.Tie as tie
-
-returns : tie.Need-returns
-returns c = parts-in-turn
-
-pub parts-in-turn-spec : {M : Type 1} → statement M
-parts-in-turn-spec = tie.close (tie.spec returns)

@@ -1,9 +1,0 @@
-use Rattle.interface.proofs.Examples.Computed.{computed-range}
-use Rattle.interface.proofs.range_example.Statement.{statement}
-use Rattle.interface.proofs.range_example.Tie as tie
-
-returns : tie.Need-returns
-returns c = computed-range
-
-pub range-example-spec : {M : Type 1} → statement M
-range-example-spec = tie.close (tie.spec returns)

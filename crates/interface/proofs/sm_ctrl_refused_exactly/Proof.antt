@@ -1,9 +1,0 @@
-use Rattle.interface.proofs.Refusals.OtherRefusals.{sm-ctrl-refused-exactly}
-use Rattle.interface.proofs.sm_ctrl_refused_exactly.Statement.{statement}
-use Rattle.interface.proofs.sm_ctrl_refused_exactly.Tie as tie
-
-returns : tie.Need-returns
-returns c = sm-ctrl-refused-exactly
-
-pub sm-ctrl-refused-exactly-spec : {M : Type 1} → statement M
-sm-ctrl-refused-exactly-spec = tie.close (tie.spec returns)

@@ -1,9 +1,0 @@
-use Rattle.interface.proofs.Examples.SmallCasesComputed.{small-cases}
-use Rattle.interface.proofs.small_cases.Statement.{statement}
-use Rattle.interface.proofs.small_cases.Tie as tie
-
-returns : tie.Need-returns
-returns c = small-cases
-
-pub small-cases-spec : {M : Type 1} → statement M
-small-cases-spec = tie.close (tie.spec returns)

@@ -1,0 +1,2 @@
+-- Selectors, places and object numbers, as definitions.
+pub mod Numbers

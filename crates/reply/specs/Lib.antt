@@ -1,0 +1,2 @@
+-- The reply, as definitions.
+pub mod Replies
