@@ -2,8 +2,8 @@
 use borrow.Author.Needs.{needs}
 use Prim.Native.Nat.{_≤_, _-_}
 use lib.ListN.{length}
-use Rattle.incident.proofs.name_places.Statement.{statement}
-use Rattle.incident.proofs.name_places.Tie as tie
+use Rattle.incident.proofs.telling.say_list.Statement.{statement}
+use Rattle.incident.proofs.telling.say_list.Tie as tie
 
 abbrev Inv-loop : tie.InvT-loop
 Inv-loop list count i₀ t4 t5 i = i ≤ length list
@@ -50,8 +50,8 @@ loop-again c = search needs
 returns-2 : tie.Need-returns-2 Inv-loop μ-loop
 returns-2 c = search needs
 
-pub name-places-spec : {M : Type 1} → statement M
-name-places-spec =
+pub say-list-spec : {M : Type 1} → statement M
+say-list-spec =
     tie.close
     (tie.spec
     Inv-loop

@@ -2,8 +2,8 @@
 use lib.Pow.{pow-pos}
 use borrow.Author.Needs.{needs}
 use Rattle.descriptor.proofs.DescriptorLaws.{proper-order}
-use Rattle.incident.proofs.say_range.Statement.{statement}
-use Rattle.incident.proofs.say_range.Tie as tie
+use Rattle.incident.proofs.telling.say_range.Statement.{statement}
+use Rattle.incident.proofs.telling.say_range.Tie as tie
 
 space-requires : tie.Need-space-requires
 space-requires c κs = search needs

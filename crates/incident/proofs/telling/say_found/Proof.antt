@@ -2,8 +2,8 @@
 use mathlib.Core.Path.{sym, _∙_}
 use Rattle.descriptor.proofs.DescriptorLaws.{good-proper}
 use borrow.Author.Needs.{needs}
-use Rattle.incident.proofs.say_found.Statement.{statement}
-use Rattle.incident.proofs.say_found.Tie as tie
+use Rattle.incident.proofs.telling.say_found.Statement.{statement}
+use Rattle.incident.proofs.telling.say_found.Tie as tie
 
 enum-known-reply : tie.Need-enum-known-reply
 enum-known-reply c = search needs
