@@ -6,7 +6,7 @@ use mathlib.Core.List.{_∷_}
 use native.Mathlib.Omega.{arith}
 use lib.Dec.{eqb}
 use borrow.Author.Tests.{eqb-true, eqb-false}
-use Rattle.words.specs.Sizes.{places, spaceOf}
+use Rattle.words.specs.Sizes.{places}
 use Rattle.layout.specs.declared.Place.{Place}
 use Rattle.layout.specs.declared.FoundPlace.{FoundPlace}
 use Rattle.layout.specs.declared.FoundPlace.the-variants.{At, Nowhere}
@@ -52,10 +52,7 @@ module _ {caps : ℕ → Cap} {place : ℕ} {cap : Cap} {found : FoundPlace} (li
     pub parent-small : above .0 < places
     parent-small = leads-there .1
 
-    -- the parent is of the same space, and the depth falls on the way to it
-    pub parent-beside : spaceOf (above .0) ≡ spaceOf place
-    parent-beside = links .parent-space place (above .0) small parent-word
-
+    -- the depth falls on the way to the parent
     pub walk-shorter : (depth : ℕ) → caps place .depth ≡ depth → caps (above .0) .depth < depth
     walk-shorter depth is-depth = omega (arith, links .parent-depth place (above .0) small parent-word)
 

@@ -19,7 +19,7 @@ use spectrometer::TEST;
 use spectrometer::THEM;
 use steps::Machine;
 
-// The root gets an EC to receive from the hypervisor with, and makes the four domains, each of which can call the next one.
+// The root gets an EC to receive from the hypervisor with, and makes the four domains, of which each but the last can call the next one.
 fn set_up(machine: Machine) -> Machine {
     machine
         .chapter(b"THE MACHINE AND ITS DOMAINS\n")
@@ -99,7 +99,7 @@ fn aftermath(machine: Machine) -> Machine {
         .name_shutter_heirs(HYPERVISOR)
 }
 
-// Tells the story, chapter by chapter.
+// Tells the story, part by part.
 fn main() {
     let machine = set_up(Machine::blank());
     let machine = lending(machine);

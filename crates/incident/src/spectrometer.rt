@@ -19,10 +19,10 @@ pub(crate) const TEST: u32 = 4;
 
 pub(crate) const SPARE: u32 = 5;
 
-// The shutter's ports: how many, and the order of their range. The warning lamp's port is the next one after them in each domain.
-const SHUTTER_PORTS: u32 = 4;
-
+// The shutter's ports: the order of their range, and how many there are. The warning lamp's port is the next one after them in each domain.
 const SHUTTER_ORDER: u32 = 2;
+
+const SHUTTER_PORTS: u32 = 1 << SHUTTER_ORDER;
 
 // The selector of the page of the measured spectrum, in each domain.
 pub(crate) const PAGE: u32 = 5;
@@ -44,6 +44,7 @@ pub(crate) fn ec(domain: u32) -> u32 {
         OPERATING => boot::ROOT_SC + 4,
         SERVICE => boot::ROOT_SC + 7,
         TEST => boot::ROOT_SC + 10,
+        SPARE => boot::ROOT_SC + 13,
         _ => boot::ROOT_EC,
     }
 }

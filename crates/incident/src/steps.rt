@@ -1,4 +1,4 @@
-// One step of the story each: it makes its call, and says who did what and how it ended.
+// The steps of the story: each makes its calls, and says who did what and how it ended.
 ghost use Prim.Native.Nat.{_<_};
 ghost use Rattle.words.specs.Sizes.{domains, io, selectors, spaces};
 use crate::spectrometer::IT;
@@ -48,7 +48,7 @@ impl Machine {
         let mut objects = self.1;
         say(b"The machine boots: ");
         say_done(kernel::boot(&mut places, &mut objects));
-        Machine(places, objects, 0)
+        Machine(places, objects, self.2)
     }
 
     // The root makes an EC of its own and a portal to it, to receive from the hypervisor.
@@ -60,7 +60,7 @@ impl Machine {
         say_done(requests::create_own_ec(portal - 1, &mut places, &mut objects));
         say(b"The root makes a portal to it: ");
         say_done(requests::create_pt(portal, portal - 1, &mut places, &mut objects));
-        Machine(places, objects, 0)
+        Machine(places, objects, self.2)
     }
 
     // The root makes a domain: its PD, an EC in it and a portal to that EC.
@@ -74,16 +74,16 @@ impl Machine {
         say_done(requests::create_ec(portal - 1, portal - 2, &mut places, &mut objects));
         say(b"  a portal to that: ");
         say_done(requests::create_pt(portal, portal - 1, &mut places, &mut objects));
-        Machine(places, objects, 0)
+        Machine(places, objects, self.2)
     }
 
     // Lends a range to the domain behind a portal.
-    fn send(self, caller: u32, portal: u32, item: u32, window: u32) -> Machine {
+    fn lend_range(self, caller: u32, portal: u32, item: u32, window: u32) -> Machine {
         let mut places = self.0;
         let mut objects = self.1;
-        let reply = requests::lend(caller, portal, item, window, &mut places, &mut objects);
+        let reply = messages::lend(caller, portal, item, window, &mut places, &mut objects);
         say_places(reply, b" filled\n");
-        Machine(places, objects, 0)
+        Machine(places, objects, self.2)
     }
 
     // The root lends a domain the portal to the next one.
@@ -91,7 +91,7 @@ impl Machine {
         say_act(domain, b" gets a portal");
         say_to(b" to", next);
         let onward = requests::single(sizes::OBJECT, portal_to(next));
-        self.send(boot::ROOT_EC, portal_to(domain), onward, onward)
+        self.lend_range(boot::ROOT_EC, portal_to(domain), onward, onward)
     }
 
     // The root takes a thing of the hypervisor's.
@@ -101,14 +101,14 @@ impl Machine {
         say_deed(ROOT, b" takes ", thing);
         say(b": ");
         let range = range_of(ROOT, thing);
-        let reply = requests::take(portal_to(ROOT), range, &mut places, &mut objects);
+        let reply = messages::take(portal_to(ROOT), range, &mut places, &mut objects);
         say_places(reply, b" filled\n");
-        Machine(places, objects, 0)
+        Machine(places, objects, self.2)
     }
 
     // Lends a thing of a domain's to the next one.
-    fn pass(self, domain: u32, thing: u32, next: u32) -> Machine {
-        self.send(
+    fn lend_thing(self, domain: u32, thing: u32, next: u32) -> Machine {
+        self.lend_range(
             ec(domain),
             portal_to(next),
             range_of(domain, thing),
@@ -123,14 +123,14 @@ impl Machine {
             say(b" on");
         }
         say_to(b" to", next);
-        self.pass(domain, thing, next)
+        self.lend_thing(domain, thing, next)
     }
 
     // A domain lends a thing on to the next one once more.
     pub(crate) fn lend_again(self, domain: u32, thing: u32, next: u32) -> Machine {
         say_deed(domain, b" lends ", thing);
         say(b" on again: ");
-        self.pass(domain, thing, next)
+        self.lend_thing(domain, thing, next)
     }
 
     // What a domain finds at a selector.
@@ -193,7 +193,7 @@ impl Machine {
         let mut places = self.0;
         let mut objects = self.1;
         say_done(requests::revoke(range, &mut places, &mut objects));
-        Machine(places, objects, 0)
+        Machine(places, objects, self.2)
     }
 
     // The root revokes what the last LOOKUP answered.

@@ -1,4 +1,5 @@
-// Writes to standard output, in words, what the story is told with: domains and things by name, the replies of the calls, ranges, selectors and places. No contract can say what is written.
+// Writes to standard output, in words, what the story is told with: domains and things by name, the replies of the calls, ranges, selectors and places. The kit's `io` says nothing
+// of what is written, and so no contract does.
 ghost use Rattle.descriptor.specs.Descriptors.{Proper};
 use crate::spectrometer;
 use descriptor::Descriptor;

@@ -1,5 +1,5 @@
 -- Laws of selectors, places, links and object numbers: what each definition gives on each of its ways out, and what that tells a caller.
-use Prim.Native.Nat.{ℕ, zero, suc, _+_, _-_, _%_, _≤_, _<_}
+use Prim.Native.Nat.{ℕ, zero, suc, _-_, _%_, _≤_, _<_}
 use mathlib.Core.Path.{_≡_, refl}
 use mathlib.Core.Bool.{Bool, true, false, cond, _||_}
 use native.Mathlib.Nat.{mod-eq-of-lt}

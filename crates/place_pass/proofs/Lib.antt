@@ -1,4 +1,4 @@
 -- The laws that the functions' proofs cite.
-pub mod HypervisorLaws
+pub mod BootPlaceLaws
 pub mod GroupLaws
 pub mod QuickLaws

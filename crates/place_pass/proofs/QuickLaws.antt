@@ -27,7 +27,7 @@ use Rattle.place_rules.proofs.PlaceTests.{link-before, link-past, past-hypervis
 use Rattle.place_rules.proofs.BlankLaws.{blank-null, null-blank}
 use Rattle.place_pass.specs.PassKeeping.{quickKeeps}
 use Rattle.place_pass.proofs.GroupLaws.{domain-without-pd}
-use Rattle.place_pass.proofs.HypervisorLaws.{hypervisor-below}
+use Rattle.place_pass.proofs.BootPlaceLaws.{hypervisor-below}
 
 -- whether the domain of a place is 0 or has a PD
 abbrev homely : State → ℕ → Bool

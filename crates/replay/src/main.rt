@@ -1,34 +1,17 @@
 // Replays journals on the kernel, each from boot on, and writes their lines: those that the arguments name, one after the other, or the one on standard input.
-ghost use Prim.Native.Nat.{_+_, _-_, _*_, _≤_};
+ghost use Prim.Native.Nat.{_+_, _*_, _≤_};
 ghost use mathlib.Core.Path.{_≡_};
 ghost use mathlib.Core.Bool.{true};
 ghost use lib.ListN.{length, take};
 ghost use Rattle.interface.specs.Places.{tables};
 ghost use Rattle.interface.specs.Damage.{sound};
 ghost use Rattle.journal_lines.specs.Texts.{lineBytes};
-ghost use Rattle.playback.specs.Playing.{isWhole};
-ghost use Rattle.replay.specs.Buffers.{Waits, Inside, isEnd, fronted, lineStart, lastAfter, Turn, KeepsUnplayed, begun, TurnsToTheEnd};
+ghost use Rattle.turns.specs.Buffers.{Waits, Inside, lineStart, lastAfter, Turn, KeepsUnplayed, begun, TurnsToTheEnd};
 use libc::STDIN_FILENO;
 use libc::STDOUT_FILENO;
 use playback::Found;
+use turns::Progress;
 use words::sizes;
-
-// How far the replay of a journal is.
-struct Progress {
-    // The bytes at the front of the input buffer that were read, and where among them the next record begins.
-    filled: usize,
-    at: usize,
-    // What begins there: a whole record only where the output buffer has no room for the longest line, or where the count could pass 64 bits.
-    next: Found,
-    // The records done.
-    done: u64,
-    // The bytes of lines at the front of the output buffer.
-    waiting: usize,
-    // Whether no more bytes of the journal are there to be read.
-    is_last: bool,
-    // Whether nothing more of the journal counts.
-    is_over: bool,
-}
 
 // Writes the lines that wait to standard output.
 fn flush(out: &[u8], waiting: usize)
@@ -51,21 +34,6 @@ fn last_start(out: &[u8], waiting: usize) -> usize
     waiting
 }
 
-// Moves a part of a buffer to its front. Answers how many bytes that is.
-fn move_to_front(buffer: &mut [u8], from: usize, to: usize) -> usize
-    requires { ⌜ (from ≤ to) × (to ≤ length (now buffer)) ⌝ }
-    ensures { λ r. ⌜ r ≡ to - from ⌝ }
-    ensures { λ r. ⌜ now (buffer .exit) ≡ fronted (now (buffer .entry)) from (to - from) ⌝ }
-{
-    let size = to - from;
-    let mut i: usize = 0;
-    while i < size {
-        buffer[i] = buffer[from + i];
-        i += 1;
-    }
-    size
-}
-
 // Reads more bytes into a buffer, after those that stand at its front. Answers how many stand there then: no more than before at the end of the input, and after an error,
 // which is named on standard error.
 fn read_more(descriptor: i32, name: &[u8], buffer: &mut [u8], kept: usize) -> usize
@@ -78,72 +46,6 @@ fn read_more(descriptor: i32, name: &[u8], buffer: &mut [u8], kept: usize) -> us
         os::fail(name);
     }
     kept + io::count(got, &buffer[kept..])
-}
-
-// Whether what begins at a position is a whole record.
-fn is_whole(next: Found) -> bool
-    ensures { λ r. ⌜ r ≡ isWhole next ⌝ }
-{
-    match next {
-        Found::Whole(_, _) => true,
-        Found::Nothing => false,
-        Found::Unknown(_) => false,
-        Found::Short => false,
-    }
-}
-
-// Whether nothing after what begins at a position counts: a record of no kind ends the journal, and a short one or none where there are no more bytes.
-fn is_end(next: Found, last: bool) -> bool
-    ensures { λ r. ⌜ r ≡ isEnd next last ⌝ }
-{
-    match next {
-        Found::Unknown(_) => true,
-        Found::Whole(_, _) => false,
-        Found::Nothing => last,
-        Found::Short => last,
-    }
-}
-
-// Plays the whole records at the front of the bytes that were read, and adds their lines. A count past 64 bits, which no run reaches, ends the journal.
-fn replay_read(
-    input: &[u8],
-    is_last: bool,
-    done: u64,
-    waiting: usize,
-    places: &mut [u32],
-    objects: &mut [u32],
-    out: &mut [u8],
-) -> Progress
-    requires { ⌜ sound (tables (now places) (now objects)) ≡ true ⌝ }
-    requires { ⌜ Waits (now out) waiting ⌝ }
-    ensures { λ r. ⌜ Inside r (now (input .entry)) (now (out .exit)) ⌝ }
-    ensures { λ r. ⌜
-        Turn (now (input .entry)) «is_last» (tables (now (places .entry)) (now (objects .entry))) done (now (out .entry)) waiting
-        (tables (now (places .exit)) (now (objects .exit))) (now (out .exit)) r ⌝ }
-    ensures { λ r. ⌜ sound (tables (now (places .exit)) (now (objects .exit))) ≡ true ⌝ }
-{
-    if u64::MAX - done < input.len() as u64 {
-        return Progress {
-            filled: input.len(),
-            at: 0,
-            next: playback::record_at(input, 0),
-            done,
-            waiting,
-            is_last,
-            is_over: true,
-        };
-    }
-    let played = playback::play_records(input, done, places, objects, out, waiting);
-    let next = played.next;
-    Progress {
-        filled: input.len(),
-        at: played.at,
-        next,
-        done: played.index,
-        waiting: played.written,
-        is_last,
-        is_over: is_end(next, is_last),
-    }
 }
 
 // Plays on: writes the lines that wait where there was no room for one more, and otherwise reads more of the journal.
@@ -165,11 +67,11 @@ fn replay_more(
     ensures { λ r. ⌜ KeepsUnplayed progress (now (input .entry)) r (now (input .exit)) ⌝ }
     ensures { λ r. ⌜ sound (tables (now (places .exit)) (now (objects .exit))) ≡ true ⌝ }
 {
-    let kept = move_to_front(input, progress.at, progress.filled);
+    let kept = turns::move_to_front(input, progress.at, progress.filled);
     let next = progress.next;
-    if is_whole(next) {
+    if turns::is_whole(next) {
         flush(out, progress.waiting);
-        return replay_read(
+        return turns::play(
             &input[..kept],
             progress.is_last,
             progress.done,
@@ -180,7 +82,7 @@ fn replay_more(
         );
     }
     let filled = read_more(descriptor, name, input, kept);
-    replay_read(
+    turns::play(
         &input[..filled],
         filled == kept,
         progress.done,

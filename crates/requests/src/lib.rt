@@ -1,4 +1,4 @@
-// The hypercalls by name, each with the promise that it is that call, for programs that tell how the kernel is used. The root makes all creations and the REVOKE.
+// The hypercalls by name that send no message, each with the promise that it is that call, for programs that tell how the kernel is used. The root makes all creations and the REVOKE.
 ghost use Prim.Native.Nat.{_≤_, _<_};
 ghost use mathlib.Core.Path.{_≡_};
 ghost use mathlib.Core.Bool.{true};
@@ -7,10 +7,9 @@ ghost use Rattle.words.specs.Ranges.{aligned};
 ghost use Rattle.descriptor.specs.Descriptors.{describe, null};
 ghost use Rattle.interface.specs.Boot.{rootEc, exc};
 ghost use Rattle.interface.specs.Verdicts.{CREATE-PD, CREATE-EC, CREATE-PT, REVOKE, LOOKUP};
-ghost use Rattle.requests.specs.Requests.{Asked, cpu, delegate, delegateFromHypervisor, fullRange, itemBlock, ItemWords, windowBlock, withOneItem, withoutMessage};
+ghost use Rattle.requests.specs.Requests.{Asked, cpu, fullRange, withoutMessage};
 use boot::ROOT_EC;
 use descriptor::Descriptor;
-use interface::block::DELEGATE_WINDOW;
 use interface::numbers;
 use layout::FoundSelector;
 use layout::Selector;
@@ -25,20 +24,6 @@ const CPU: u32 = 0;
 
 // All bits of a descriptor's mask.
 const FULL_MASK: u32 = 31;
-
-// The words of a message block that a message of one typed item has.
-const COUNTS: usize = 0;
-
-const ITEM_SECOND: usize = sizes::BLOCK_WORDS - 2;
-
-const ITEM_DESCRIPTOR: usize = sizes::BLOCK_WORDS - 1;
-
-// The counts of such a message, and its item's second word where the item is delegated, by the caller or out of the hypervisor's domain.
-const ONE_ITEM: u32 = 65536;
-
-const DELEGATE: u32 = 1;
-
-const DELEGATE_FROM_HYPERVISOR: u32 = 2049;
 
 // The descriptor of a range with all mask bits.
 pub fn range(space: u32, base: u32, order: u32) -> u32
@@ -153,88 +138,4 @@ pub fn revoke(range: u32, places: &mut [u32], objects: &mut [u32]) -> Reply
     ensures { λ r. ⌜ Asked (now (places .entry)) (now (objects .entry)) (now (places .exit)) (now (objects .exit)) r (withoutMessage REVOKE rootEc range 0 0) ⌝ }
 {
     ask(numbers::REVOKE, ROOT_EC, range, 0, 0, places, objects)
-}
-
-// What the words of a message of one typed item say.
-pub fn item_words()
-    ensures { λ r. ⌜ ItemWords ⌝ }
-{}
-
-// The sender's block of a message of one typed item.
-fn item_block(item: u32, second: u32) -> [u32; sizes::BLOCK_WORDS]
-    ensures { λ r. ⌜ r ≡ itemBlock item second ⌝ }
-{
-    let mut block = [0u32; sizes::BLOCK_WORDS];
-    block[COUNTS] = ONE_ITEM;
-    block[ITEM_DESCRIPTOR] = item;
-    block[ITEM_SECOND] = second;
-    block
-}
-
-// The receiver's block of such a message: it accepts what is delegated in a window.
-fn window_block(window: u32) -> [u32; sizes::BLOCK_WORDS]
-    ensures { λ r. ⌜ r ≡ windowBlock window ⌝ }
-{
-    let mut block = [0u32; sizes::BLOCK_WORDS];
-    block[DELEGATE_WINDOW] = window;
-    block
-}
-
-// Sends a message of one typed item, to a receiver that accepts it in a window.
-fn send(
-    caller: u32,
-    portal: u32,
-    item: u32,
-    second: u32,
-    window: u32,
-    places: &mut [u32],
-    objects: &mut [u32],
-) -> Reply
-    ensures { λ r. ⌜ Asked (now (places .entry)) (now (objects .entry)) (now (places .exit)) (now (objects .exit)) r (withOneItem caller portal item second window) ⌝ }
-{
-    let source = item_block(item, second);
-    let mut target = window_block(window);
-    kernel::hypercall(
-        numbers::CALL,
-        caller,
-        portal,
-        0,
-        0,
-        0,
-        0,
-        0,
-        places,
-        objects,
-        &source,
-        &mut target,
-    )
-}
-
-// Lends a range of the caller's to the domain behind a portal.
-pub fn lend(
-    caller: u32,
-    portal: u32,
-    item: u32,
-    window: u32,
-    places: &mut [u32],
-    objects: &mut [u32],
-) -> Reply
-    ensures { λ r. ⌜ Asked (now (places .entry)) (now (objects .entry)) (now (places .exit)) (now (objects .exit)) r (withOneItem caller portal item delegate window) ⌝ }
-{
-    send(caller, portal, item, DELEGATE, window, places, objects)
-}
-
-// Gives the root a range of the hypervisor's, at the same selectors, through a portal to an EC of the root's own.
-pub fn take(portal: u32, range: u32, places: &mut [u32], objects: &mut [u32]) -> Reply
-    ensures { λ r. ⌜ Asked (now (places .entry)) (now (objects .entry)) (now (places .exit)) (now (objects .exit)) r (withOneItem rootEc portal range delegateFromHypervisor range) ⌝ }
-{
-    send(
-        ROOT_EC,
-        portal,
-        range,
-        DELEGATE_FROM_HYPERVISOR,
-        range,
-        places,
-        objects,
-    )
 }

@@ -1,5 +1,5 @@
 // A message from block to block: the untyped words, and the typed items, each translated or delegated in its turn.
-ghost use Prim.Native.Nat.{_+_, _<_, _≤_};
+ghost use Prim.Native.Nat.{_<_, _≤_};
 ghost use mathlib.Core.Path.{_≡_};
 ghost use Rattle.words.specs.Sizes.{domains};
 ghost use Rattle.descriptor.specs.declared.Range.{Range};

@@ -9,7 +9,7 @@ use borrow.Author.Tests.{not-true, not-false}
 use lib.ListN.{length}
 use Rattle.interface.specs.Places.{tables}
 use Rattle.interface.specs.Damage.{sound}
-use Rattle.replay.specs.Buffers.{Inside, Standing, begun, Turns}
+use Rattle.turns.specs.Buffers.{Inside, Standing, begun, Turns}
 use Rattle.replay.proofs.BufferLaws.{turns-none, turns-more}
 use Rattle.replay.proofs.replay_all.Statement.{statement}
 use Rattle.replay.proofs.replay_all.Tie as tie

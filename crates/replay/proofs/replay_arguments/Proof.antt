@@ -3,7 +3,7 @@ use Prim.Native.Nat.{_≤_, _-_}
 use mathlib.Core.Path.{_≡_}
 use borrow.Author.Needs.{needs}
 use lib.ListN.{length}
-use Rattle.replay.specs.Buffers.{Waits}
+use Rattle.turns.specs.Buffers.{Waits}
 use Rattle.replay.proofs.replay_arguments.Statement.{statement}
 use Rattle.replay.proofs.replay_arguments.Tie as tie
 

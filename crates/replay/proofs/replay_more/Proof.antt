@@ -5,7 +5,9 @@ use native.Mathlib.Omega.{arith}
 use lib.ListN.{length}
 use lib.Seq.{length-take-le}
 use denote.Ref.{now}
-use Rattle.replay.proofs.BufferLaws.{moved-front, inside-whole, turn-whole, line-start-front, line-start-after, last-front, last-after}
+use Rattle.interface.specs.Places.{tables}
+use Rattle.turns.proofs.FrontLaws.{moved-front}
+use Rattle.replay.proofs.BufferLaws.{inside-whole, turn-whole, line-start-front, line-start-after, last-front, last-after}
 use borrow.Author.Needs.{needs}
 use Rattle.replay.proofs.replay_more.Statement.{statement}
 use Rattle.replay.proofs.replay_more.Tie as tie
@@ -19,22 +21,22 @@ is-whole-requires c κs = search needs
 flush-requires : tie.Need-flush-requires
 flush-requires c κs = search needs
 
-slice-reshare-prefix-replay-read : tie.Need-slice-reshare-prefix-replay-read
-slice-reshare-prefix-replay-read c = search needs
+slice-reshare-prefix-play : tie.Need-slice-reshare-prefix-play
+slice-reshare-prefix-play c = search needs
 
 -- what was moved lies in the buffer
-moved-fits : (c : tie.After-replay-read-arg) →
+moved-fits : (c : tie.After-play-arg) →
     let moved = c .before .before .before .before .before .before .before .move-to-front in
     moved .result ≤ length (moved .last .0)
 moved-fits c = search needs
 
-slice-aggregate-replay-read : tie.Need-slice-aggregate-replay-read
-slice-aggregate-replay-read c =
+slice-aggregate-play : tie.Need-slice-aggregate-play
+slice-aggregate-play c =
     let moved = c .before .before .before .before .before .before .before .move-to-front in
     sym (length-take-le (moved .result) (moved .last .0) (moved-fits c))
 
-replay-read-requires : tie.Need-replay-read-requires
-replay-read-requires c κs = search needs
+play-requires : tie.Need-play-requires
+play-requires c κs = search needs
 
 same-length : tie.Need-same-length
 same-length c = search needs
@@ -56,12 +58,14 @@ returns c =
     let is-whole = c .before .before .before .before .before .before .before .before .before .before .before .before .before .before .is-whole .ensures in
     let taken = c .before .before .before .before .before .before .before .before .before .before .before .before .before .if1 .taken in
     let fits = moved-fits (c .before .before .before .before .before .before .before .before .before .before) in
-    let replayed = c .before .before .before .before .before .before .replay-read .ensures in
+    let play = c .before .before .before .before .before .before .play in
+    let replayed = play .ensures in
     let start = line-start-front (begun .args .progress) _ is-whole taken in
     let all = replayed .1 .0 .all-read ∙ length-take-le (moved .result) (moved .last .0) fits in (
       inside-whole (moved .last .0) (moved .result) (replayed .0),
       (
-        turn-whole (moved .last .0) (moved .result) fits start (last-front _ _ is-whole taken _) (replayed .1 .0),
+        turn-whole (moved .last .0) (moved .result) fits
+            {after = tables (play .last .1 .1 .1 .1 .0) (play .last .1 .1 .1 .1 .1 .0)} start (last-front _ _ is-whole taken _) (replayed .1 .0),
         (
           record {
             still = moved-front (now (begun .args .input)) (moved .last .0) _ _ (begun .pre .1 .next) (begun .pre .1 .read) (moved .ensures .1);
@@ -75,14 +79,14 @@ returns c =
 read-more-requires : tie.Need-read-more-requires
 read-more-requires c κs = search needs
 
-slice-reshare-prefix-replay-read-2 : tie.Need-slice-reshare-prefix-replay-read-2
-slice-reshare-prefix-replay-read-2 c = search needs
+slice-reshare-prefix-play-2 : tie.Need-slice-reshare-prefix-play-2
+slice-reshare-prefix-play-2 c = search needs
 
-slice-aggregate-replay-read-2 : tie.Need-slice-aggregate-replay-read-2
-slice-aggregate-replay-read-2 c = let read = c .before .before .before .read-more in sym (length-take-le (read .result) (read .last .1 .1 .0) (search needs))
+slice-aggregate-play-2 : tie.Need-slice-aggregate-play-2
+slice-aggregate-play-2 c = let read = c .before .before .before .read-more in sym (length-take-le (read .result) (read .last .1 .1 .0) (search needs))
 
-replay-read-requires-2 : tie.Need-replay-read-requires-2
-replay-read-requires-2 c κs = search needs
+play-requires-2 : tie.Need-play-requires-2
+play-requires-2 c κs = search needs
 
 same-length-5 : tie.Need-same-length-5
 same-length-5 c = search needs
@@ -104,12 +108,14 @@ returns-2 c =
     let is-whole = c .before .before .before .before .before .before .before .before .before .before .before .before .before .before .before .before .is-whole .ensures in
     let left = c .before .before .before .before .before .before .before .before .before .before .before .before .before .before .before .if1 .left in
     let read = c .before .before .before .before .before .before .before .before .before .before .before .before .before .read-more in
-    let replayed = c .before .before .before .before .before .before .replay-read2 .ensures in
+    let play = c .before .before .before .before .before .before .play2 in
+    let replayed = play .ensures in
     let start = line-start-after (begun .args .progress) _ is-whole left in
     let all = replayed .1 .0 .all-read ∙ length-take-le (read .result) (read .last .1 .1 .0) (read .ensures .0 .1) in (
       inside-whole (read .last .1 .1 .0) (read .result) (replayed .0),
       (
-        turn-whole (read .last .1 .1 .0) (read .result) (read .ensures .0 .1) start (last-after _ _ is-whole left _ _ _ all (moved .ensures .0)) (replayed .1 .0),
+        turn-whole (read .last .1 .1 .0) (read .result) (read .ensures .0 .1)
+            {after = tables (play .last .1 .1 .1 .1 .0) (play .last .1 .1 .1 .1 .1 .0)} start (last-after _ _ is-whole left _ _ _ all (moved .ensures .0)) (replayed .1 .0),
         (
           record {
             still =
@@ -129,18 +135,18 @@ replay-more-spec =
     move-to-front-requires
     is-whole-requires
     flush-requires
-    slice-reshare-prefix-replay-read
-    slice-aggregate-replay-read
-    replay-read-requires
+    slice-reshare-prefix-play
+    slice-aggregate-play
+    play-requires
     same-length
     same-length-2
     same-length-3
     same-length-4
     returns
     read-more-requires
-    slice-reshare-prefix-replay-read-2
-    slice-aggregate-replay-read-2
-    replay-read-requires-2
+    slice-reshare-prefix-play-2
+    slice-aggregate-play-2
+    play-requires-2
     same-length-5
     same-length-6
     same-length-7

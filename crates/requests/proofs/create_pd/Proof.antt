@@ -1,6 +1,6 @@
 -- A CREATE_PD whose initial descriptor is the null one.
 use borrow.Author.Needs.{needs}
-use Rattle.requests.proofs.MessageLaws.{asked-empty}
+use Rattle.requests.proofs.EmptyDomainLaws.{asked-empty}
 use Rattle.requests.proofs.create_pd.Statement.{statement}
 use Rattle.requests.proofs.create_pd.Tie as tie
 

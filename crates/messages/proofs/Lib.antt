@@ -1,0 +1,2 @@
+-- The law that the functions' proofs cite.
+pub mod MessageLaws

@@ -1,0 +1,2 @@
+-- What the contracts of the messages cite.
+pub mod Messages

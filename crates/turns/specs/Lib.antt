@@ -1,0 +1,2 @@
+-- What the contracts of the turns of a replay cite.
+pub mod Buffers
