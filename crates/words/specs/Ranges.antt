@@ -2,9 +2,11 @@
 use Prim.Native.Nat.{ℕ, _+_, _-_, _%_, _^_, _≤_, _<_}
 use mathlib.Core.Path.{_≡_}
 use mathlib.Core.Bool.{Bool, true}
+use mathlib.Core.Logic.{_↔_}
+use lib.Count.{trailingZeros}
 use lib.Dec.{eqb}
 
--- a base is aligned when it has at least as many trailing zero bits as the order says
+-- a base is aligned when it has at least as many trailing zero bits as the order says: when it is a multiple of 2 ^ order
 abbrev pub aligned : ℕ → ℕ → Bool
 aligned order base = eqb (base % 2 ^ order) 0
 
@@ -16,6 +18,11 @@ rounded order number = number - number % 2 ^ order
 -- the smaller order stays
 abbrev pub raised : ℕ → ℕ → ℕ → ℕ → ℕ
 raised order smaller hotspot base = base + rounded smaller (hotspot % 2 ^ order)
+
+-- The alignment fact: for every order up to the width of a word, a base is aligned exactly when it has at least that many trailing zero bits; and base 0 is aligned for every order
+pub record AlignmentFact : Type 0 where
+  pub aligned-zeros : (width order base : ℕ) → order ≤ width → (aligned order base ≡ true) ↔ (order ≤ trailingZeros width base)
+  pub zero-aligned : (order : ℕ) → aligned order 0 ≡ true
 
 -- The range fact: a range of a space that is aligned and begins in it lies in it, whatever its order and the space's
 pub record RangeFact : Type 0 where

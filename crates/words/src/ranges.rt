@@ -11,12 +11,14 @@ pub fn size(order: u32) -> u32
     1 << order
 }
 
-// Whether a range of an order may begin at a base.
+// Whether a range of an order may begin at a base: at 0 always, and at any other base that has at least as many trailing zero bits as the order says.
 pub fn is_aligned(order: u32, base: u32) -> bool
-    requires { ⌜ order < 32 ⌝ }
     ensures { λ r. ⌜ r ≡ aligned order base ⌝ }
 {
-    base % size(order) == 0
+    if base == 0 {
+        return true;
+    }
+    order <= u32::trailing_zeros(base)
 }
 
 // A number rounded down to a multiple of 2 ^ order: the base of the range of that order around it.

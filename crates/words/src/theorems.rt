@@ -1,7 +1,12 @@
 // What is proved of the definitions themselves: each function promises one statement and does nothing.
 ghost use Rattle.words.specs.Sizes.{PlaceFact};
 ghost use Rattle.words.specs.Permissions.{PermissionFacts};
-ghost use Rattle.words.specs.Ranges.{RangeFact, HotspotFact};
+ghost use Rattle.words.specs.Ranges.{AlignmentFact, RangeFact, HotspotFact};
+
+// A base is aligned exactly when it has enough trailing zero bits, and base 0 always is.
+pub fn alignment_fact()
+    ensures { λ r. ⌜ AlignmentFact ⌝ }
+{}
 
 // A range that is aligned and begins in a space lies in it.
 pub fn range_fact()

@@ -1,17 +1,15 @@
--- The size that the base is divided by is the order's.
+-- Base 0 is aligned for every order, and of any other word the trailing zero bits tell it.
+use mathlib.Core.Path.{sym}
 use borrow.Author.Needs.{needs}
-use lib.Pow.{pow-pos}
+use Rattle.words.proofs.RangeLaws.{zero-aligned, others-aligned}
 use Rattle.words.proofs.ranges.is_aligned.Statement.{statement}
 use Rattle.words.proofs.ranges.is_aligned.Tie as tie
 
-size-requires : tie.Need-size-requires
-size-requires c κs = search needs
-
-rem-result : tie.Need-rem-result
-rem-result c = rw (c .size .ensures) (search (pow-pos, needs))
-
 returns : tie.Need-returns
-returns c = rw (c .size .ensures)
+returns c = sym (rw (c .if1 .taken) (zero-aligned (c .before .args .order)))
+
+returns-2 : tie.Need-returns-2
+returns-2 c = others-aligned 32 (c .before .args .order) (c .before .args .base) (search needs) (search needs)
 
 pub is-aligned-spec : {M : Type 1} → statement M
-is-aligned-spec = tie.close (tie.spec size-requires rem-result returns)
+is-aligned-spec = tie.close (tie.spec returns returns-2)
