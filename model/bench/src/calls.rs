@@ -11,6 +11,7 @@ use model::Hypercall;
 
 use crate::call::{Call, Case, Cell, Times, SIDES};
 use crate::counting::{measured, of_calls};
+use crate::descriptors::{self, ITEMS};
 use crate::journals::{DELEGATE, FROM_HYPERVISOR};
 use crate::markdown::{line, ratio, short, table};
 use crate::tables::{boot, crowded, deep, full, lent_out, mixed, place, Lent, ORIGIN};
@@ -28,14 +29,16 @@ pub struct Measured {
 pub enum Section {
     Damage,
     Calls,
+    Descriptors,
     Live,
     Depth,
 }
 
 impl Section {
-    const ALL: [Section; 4] = [
+    const ALL: [Section; 5] = [
         Section::Damage,
         Section::Calls,
+        Section::Descriptors,
         Section::Live,
         Section::Depth,
     ];
@@ -44,6 +47,7 @@ impl Section {
         match self {
             Section::Damage => "damage",
             Section::Calls => "calls",
+            Section::Descriptors => "descriptors",
             Section::Live => "live",
             Section::Depth => "depth",
         }
@@ -59,6 +63,7 @@ impl Section {
         match self {
             Section::Damage => damage_tests(),
             Section::Calls => calls(),
+            Section::Descriptors => descriptors::messages(),
             Section::Live => by_live_places(),
             Section::Depth => by_depth(),
         }
@@ -69,6 +74,7 @@ impl Section {
         match self {
             Section::Damage => &["tables", "live places"],
             Section::Calls => &["tables", "call", "places"],
+            Section::Descriptors => &["items"],
             Section::Live => &["call", "live places", "heirs"],
             Section::Depth => &["call", "depth", "heirs"],
         }
@@ -273,6 +279,40 @@ fn measure_section(section: Section, rounds: u32) -> io::Result<()> {
 pub fn measure(rounds: u32) -> io::Result<()> {
     line("## Calls through the archive");
     measure_section(Section::Calls, rounds)
+}
+
+/// Measures and prints what an item adds to a message: two descriptors are read, its own
+/// and the window's.
+pub fn measure_descriptors(rounds: u32) -> io::Result<()> {
+    line("## Reading descriptors");
+    let section = Section::Descriptors;
+    let all = measured_section(section, rounds)?;
+    let [empty, full @ ..] = all.as_slice() else {
+        return Err(io::Error::other("no message was measured"));
+    };
+    let each = |full: [f64; 2], empty: [f64; 2]| {
+        let [model, proved] = [0, 1].map(|side| (full[side] - empty[side]) / ITEMS as f64);
+        [short(model), short(proved), ratio(proved, model)]
+    };
+    let row = |one: &Measured| {
+        let times = each(one.times.sides, empty.times.sides);
+        let [counts, none] = [one, empty].map(|one| one.instructions.map(|count| count as f64));
+        let first = one.columns.iter().map(Cell::text);
+        first.chain(times).chain(each(counts, none)).collect()
+    };
+    let figures = [
+        "model, ns",
+        "proved, ns",
+        "proved / model",
+        "model, instructions",
+        "proved, instructions",
+        "proved / model",
+    ];
+    table(
+        &[section.head(), &figures].concat(),
+        &full.iter().map(row).collect::<Vec<_>>(),
+    );
+    Ok(())
 }
 
 pub fn measure_damage_test(rounds: u32) -> io::Result<()> {

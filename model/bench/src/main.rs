@@ -5,6 +5,7 @@
 mod call;
 mod calls;
 mod counting;
+mod descriptors;
 mod growth;
 mod journals;
 mod markdown;
@@ -22,7 +23,7 @@ use replay::{print_lines, MODEL, MODEL_WITHOUT_TEST};
 /// have their instructions counted.
 pub const COUNT: &str = "--count";
 
-const USAGE: &str = "usage: bench [--rounds N] [replay|growth|calls|damage]...";
+const USAGE: &str = "usage: bench [--rounds N] [replay|growth|calls|descriptors|damage]...";
 
 /// Rounds of each measurement, of which the best is printed.
 const ROUNDS: u32 = 21;
@@ -31,10 +32,11 @@ const ROUNDS: u32 = 21;
 type Measure = fn(u32) -> io::Result<()>;
 
 /// The sections of the document, in its order.
-const SECTIONS: [(&str, Measure); 4] = [
+const SECTIONS: [(&str, Measure); 5] = [
     ("replay", replay::measure),
     ("growth", growth::measure),
     ("calls", calls::measure),
+    ("descriptors", calls::measure_descriptors),
     ("damage", calls::measure_damage_test),
 ];
 

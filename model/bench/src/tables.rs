@@ -87,6 +87,18 @@ pub fn after(kind: Kind, records: usize) -> Lent {
     Lent::new(replay.machine)
 }
 
+/// The root's selectors of an EC and of a portal to it.
+const EC: u32 = ROOT_SELECTOR + 3;
+pub const PORTAL: u32 = EC + 1;
+
+/// The tables of boot with a portal of the root to another EC.
+pub fn with_portal() -> Lent {
+    let mut lent = boot();
+    lent.call(Hypercall::CreateEc, [EC, ROOT_SELECTOR, 0, 0, 0, 0]);
+    lent.call(Hypercall::CreatePt, [PORTAL, ROOT_SELECTOR, EC, 0, 0, 0]);
+    lent
+}
+
 pub fn mixed() -> Lent {
     after(Kind::Mixed, 2_000)
 }
