@@ -143,6 +143,13 @@ static void refusals(void) {
     const uint32_t wide = rudozhev_range(RUDOZHEV_OBJECT, 0, 7, RUDOZHEV_FULL_MASK);
     HOLDS(rudozhev_status(rudozhev_lookup(&tables, CALLER, wide)) == RUDOZHEV_BAD_PAR);
     HOLDS(rudozhev_status(rudozhev_revoke(&tables, CALLER, wide, false)) == RUDOZHEV_BAD_PAR);
+    const uint32_t unmasked = rudozhev_range(RUDOZHEV_OBJECT, EC, 0, 0);
+    HOLDS(rudozhev_status(rudozhev_revoke(&tables, CALLER, unmasked, true)) == RUDOZHEV_BAD_PAR);
+    const uint32_t past_io = rudozhev_range(RUDOZHEV_IO, 8, 0, 30);
+    HOLDS(rudozhev_status(rudozhev_revoke(&tables, CALLER, past_io, true)) == RUDOZHEV_BAD_PAR);
+    const uint32_t past_memory = rudozhev_range(RUDOZHEV_MEMORY, 8, 0, 24);
+    HOLDS(rudozhev_status(rudozhev_revoke(&tables, CALLER, past_memory, true)) == RUDOZHEV_BAD_PAR);
+    HOLDS(rudozhev_status(rudozhev_revoke(&tables, CALLER, RUDOZHEV_NULL, true)) == RUDOZHEV_SUCCESS);
     HOLDS(rudozhev_status(rudozhev_create_pd(&tables, CALLER, 50, PD, wide)) == RUDOZHEV_BAD_PAR);
     HOLDS(rudozhev_status(rudozhev_create_sc(&tables, CALLER, 50, PD, EC, rudozhev_qpd(256, 1))) == RUDOZHEV_BAD_PAR);
     uint64_t reply = rudozhev_census(rudozhev_place(8, RUDOZHEV_MEMORY, 0), tables.places, RUDOZHEV_PLACE_WORDS,

@@ -310,7 +310,8 @@ RUDOZHEV_ANSWERS static inline uint64_t rudozhev_create_sm(struct rudozhev_table
 }
 
 /* Takes the mask's permissions from all that was lent from a range, and from the range
- * itself if asked. */
+ * itself if asked. A mask without a permission of the range's space is refused: in memory
+ * one without a bit of 7, in I/O one without bit 0, for objects mask 0. */
 RUDOZHEV_ANSWERS static inline uint64_t rudozhev_revoke(struct rudozhev_tables *tables, uint32_t caller, uint32_t range,
                                                         bool with_self) {
     return rudozhev_without_blocks(RUDOZHEV_REVOKE, tables, caller, range, with_self, 0, 0, 0, 0);

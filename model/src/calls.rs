@@ -337,6 +337,10 @@ fn revoke(
     let Some(range) = Descriptor::from_word(descriptor).range()? else {
         return Ok(0);
     };
+    // No capability of the space has a permission of such a mask.
+    if range.mask & range.space.greatest_permissions() == 0 {
+        return Err(Status::BadPar);
+    }
     // All descendants are found before any place changes.
     let origins = PlaceSet::from_iter(range.places(domain));
     let heirs = descendants(tables.places, &origins, range.space);

@@ -89,13 +89,16 @@ pub const STORED: &[(&str, Source)] = &[
     ),
     ("absent.journal", Source::Absent),
     ("mixed-1.journal", Source::Kept),
-    ("mixed-2.journal", Source::Kept),
     ("mixed-3.journal", Source::Kept),
-    ("mixed-4.journal", Source::Kept),
     ("deep-1.journal", Source::Kept),
     ("deep-2.journal", Source::Kept),
-    ("deep-3.journal", Source::Kept),
     ("deep-4.journal", Source::Kept),
+    ("revoking-1.journal", Source::Kept),
+    ("revoking-2.journal", Source::Kept),
+    ("revoking-3.journal", Source::Kept),
+    ("revoking-4.journal", Source::Kept),
+    ("revoking-5.journal", Source::Kept),
+    ("revoking-long.journal", Source::Kept),
     (
         "every-call-1.journal",
         Source::Generated(Kind::Mixed, 1, 200),
@@ -114,19 +117,19 @@ pub const STORED: &[(&str, Source)] = &[
     ),
     (
         "depth-limit-1.journal",
-        Source::Generated(Kind::Deep, 30, 220),
+        Source::Generated(Kind::Deep, 17, 220),
     ),
     (
         "depth-limit-2.journal",
-        Source::Generated(Kind::Deep, 31, 220),
+        Source::Generated(Kind::Deep, 25, 220),
     ),
     (
         "depth-limit-3.journal",
-        Source::Generated(Kind::Deep, 18, 220),
+        Source::Generated(Kind::Deep, 50, 220),
     ),
     (
         "all-domains-1.journal",
-        Source::Generated(Kind::Full, 1, 250),
+        Source::Generated(Kind::Full, 6, 250),
     ),
     (
         "all-domains-2.journal",
@@ -150,7 +153,7 @@ pub const STORED: &[(&str, Source)] = &[
     ),
     (
         "hypervisor-flag-1.journal",
-        Source::Generated(Kind::Flagged, 1, 100),
+        Source::Generated(Kind::Flagged, 16, 100),
     ),
     (
         "hypervisor-flag-2.journal",
@@ -158,11 +161,11 @@ pub const STORED: &[(&str, Source)] = &[
     ),
     (
         "overlap-in-one-domain-1.journal",
-        Source::Generated(Kind::Within, 1, 200),
+        Source::Generated(Kind::Within, 22, 200),
     ),
     (
         "overlap-in-one-domain-2.journal",
-        Source::Generated(Kind::Within, 2, 200),
+        Source::Generated(Kind::Within, 35, 200),
     ),
     (
         "overlap-in-one-domain-3.journal",

@@ -29,6 +29,15 @@ impl Space {
     pub const fn order_limit(self) -> u32 {
         self.selectors().trailing_zeros()
     }
+
+    /// All permissions that capabilities of this space can have; a PD has those of every object.
+    pub const fn greatest_permissions(self) -> u32 {
+        match self {
+            Space::Memory => MEMORY_PERMISSIONS,
+            Space::Io => IO_PERMISSIONS,
+            Space::Object => ObjectKind::Pd.greatest_permissions(),
+        }
+    }
 }
 
 /// A selector: the position of a capability in one space of one domain.

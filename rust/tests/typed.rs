@@ -150,6 +150,31 @@ fn a_typed_hypercall_is_the_numbered_one() {
 }
 
 #[test]
+fn a_mask_without_a_permission_of_its_space_is_refused() -> Result<(), Refusal> {
+    let mut tables = partners()?;
+    let before = tables.clone();
+    let revoke =
+        |space, mask| Hypercall::Revoke { range: range(space, 8, 0, mask), with_self: true };
+    for (space, mask) in [
+        (Space::Memory, 0),
+        (Space::Memory, 24),
+        (Space::Io, 0),
+        (Space::Io, 30),
+        (Space::Object, 0),
+    ] {
+        let refused = tables.hypercall(ROOT_EC, revoke(space, mask)).err();
+        assert_eq!(refused, Some(Refusal::BadPar), "{space:?}, mask {mask}");
+    }
+    for (space, mask) in [(Space::Memory, 28), (Space::Io, 31), (Space::Object, 16)] {
+        tables.hypercall(ROOT_EC, revoke(space, mask))?;
+    }
+    // Nothing stands at selector 8, so those that succeed change nothing either.
+    assert!(tables == before);
+    let nothing = Hypercall::Revoke { range: Descriptor::NULL, with_self: true };
+    tables.hypercall(ROOT_EC, nothing)
+}
+
+#[test]
 fn the_hotspot_selects_the_part_of_the_window() -> Result<(), Refusal> {
     let mut tables = partners()?;
     let (mut source, mut target) = (Block::new(), Block::new());

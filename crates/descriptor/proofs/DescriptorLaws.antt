@@ -7,8 +7,9 @@ use native.Mathlib.Omega.{arith}
 use lib.Dec.{leb, eqb}
 use lib.Pow.{pow-pos}
 use borrow.Author.Tests.{le-leb, eq-eqb, ne-eqb, leb-true, eqb-true, eqb-false}
-use Rattle.words.specs.Sizes.{object, selectors, objectOrder, greatestOrder}
+use Rattle.words.specs.Sizes.{object, selectors, objectOrder, greatestOrder, placeOf, spaceOf}
 use Rattle.words.specs.Ranges.{aligned}
+use Rattle.words.proofs.PlaceLaws.{space-back}
 use Rattle.words.proofs.RangeLaws.{aligned-divides, size-divides, range-ends}
 use Rattle.words.proofs.SizeLaws.{selectors-object, greatest-small, selectors-few}
 use Rattle.descriptor.specs.declared.Range.{Range}
@@ -171,6 +172,14 @@ proper-order {range} p = omega (arith, p .order-small, greatest-small (range .sp
 
 pub proper-end : {range : Range} → Proper range → range .base + 2 ^ range .order ≤ selectors object
 proper-end {range} p = omega (arith, p .ends-inside, selectors-few (range .space))
+
+-- its places in a domain are of its space
+pub proper-space : (domain : ℕ) (range : Range) → Proper range → (p : ℕ) → placeOf domain (range .space) (range .base) ≤ p →
+    p < placeOf domain (range .space) (range .base) + 2 ^ range .order → spaceOf p ≡ range .space
+proper-space domain range proper p low high =
+    let selector = range .base + (p - placeOf domain (range .space) (range .base)) in
+    let at : p ≡ placeOf domain (range .space) selector = omega arith in
+    rw at (space-back domain (range .space) selector (proper .space-small) (omega (arith, proper .ends-inside)))
 
 -- a range and its descriptor make each other
 

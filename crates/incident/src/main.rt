@@ -64,10 +64,11 @@ fn mistake(machine: Machine) -> Machine {
         .name_shutter_heirs(ROOT)
 }
 
-// The right way is a lookup of the shutter's ports, and a revoke of their range.
+// A revoke with mask 0 takes nothing, and says so. The right way is a lookup of the shutter's ports, and a revoke of their range.
 fn recovery(machine: Machine) -> Machine {
     machine
         .chapter(b"\nTHE REVOKE OF THE PORTS\n")
+        .revoke_for_a_year()
         .look_at(ROOT, SHUTTER)
         .revoke_shutter()
 }

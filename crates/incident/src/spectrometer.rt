@@ -83,6 +83,11 @@ pub(crate) fn lamp_port(domain: u32) -> u32
     ports(domain) + SHUTTER_PORTS
 }
 
+// The descriptor of the shutter's ports, where the root has them, with mask 0.
+pub(crate) fn unmasked_ports() -> u32 {
+    requests::masked_range(sizes::IO, ports(ROOT), SHUTTER_ORDER, 0)
+}
+
 // The descriptor of a thing, where a domain has it.
 pub(crate) fn range_of(domain: u32, thing: u32) -> u32 {
     match thing {

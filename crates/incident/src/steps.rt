@@ -1,5 +1,8 @@
 // The steps of the story: each makes its calls, and says who did what and how it ended.
+ghost use mathlib.Core.Path.{_≡_};
+ghost use mathlib.Core.Bool.{true};
 ghost use Prim.Native.Nat.{_<_};
+ghost use lib.ListN.{length};
 ghost use Rattle.words.specs.Sizes.{domains, io, selectors, spaces};
 use crate::spectrometer::IT;
 use crate::spectrometer::LAMP;
@@ -12,6 +15,7 @@ use crate::spectrometer::lamp_port;
 use crate::spectrometer::portal_to;
 use crate::spectrometer::ports;
 use crate::spectrometer::range_of;
+use crate::spectrometer::unmasked_ports;
 use crate::telling;
 use crate::telling::say;
 use crate::telling::say_act;
@@ -19,7 +23,38 @@ use crate::telling::say_deed;
 use crate::telling::say_done;
 use crate::telling::say_places;
 use crate::telling::say_to;
+use reply::Reply;
 use words::sizes;
+
+// A script runs once on each night of a year.
+const NIGHTS: u32 = 365;
+
+// How many of these nights on end a REVOKE of a range is refused.
+fn refused_nights(range: u32, places: &mut [u32], objects: &mut [u32]) -> u32 {
+    let mut night: u32 = 0;
+    while night < NIGHTS {
+        if let Reply::Success(_) = requests::revoke(range, places, objects) {
+            return night;
+        }
+        night += 1;
+    }
+    night
+}
+
+// Whether a table has the words of another.
+fn has_words(table: &[u32], other: &[u32]) -> bool
+    requires { ⌜ length (now table) ≡ length (now other) ⌝ }
+    ensures { λ r. ⌜ (r ≡ true → now (table .entry) ≡ now (other .entry)) ⌝ }
+{
+    let mut i: usize = 0;
+    while i < table.len() {
+        if table[i] != other[i] {
+            return false;
+        }
+        i += 1;
+    }
+    true
+}
 
 // The table of places, the table of objects, and what the last LOOKUP answered.
 pub(crate) struct Machine(
@@ -200,6 +235,19 @@ impl Machine {
     pub(crate) fn revoke_answer(self) -> Machine {
         say(b"The root revokes what that answer names: ");
         self.revoke(self.2)
+    }
+
+    // A script of the root's revokes the shutter's ports with mask 0, night after night, whatever it is answered.
+    pub(crate) fn revoke_for_a_year(self) -> Machine {
+        let mut places = self.0;
+        let mut objects = self.1;
+        let range = unmasked_ports();
+        say(b"A script of the root's revokes the shutter's ports with mask 0: ");
+        say_done(requests::revoke(range, &mut places, &mut objects));
+        say(b"It does so each night for a year: ");
+        telling::say_refused(refused_nights(range, &mut places, &mut objects), NIGHTS);
+        telling::say_changed(has_words(&places, &self.0) & has_words(&objects, &self.1));
+        Machine(places, objects, self.2)
     }
 
     // The root revokes the shutter's ports.

@@ -94,6 +94,23 @@ pub(crate) fn say_done(reply: Reply) {
     say(b"\n");
 }
 
+// Goes on with how often a call was refused.
+pub(crate) fn say_refused(count: u32, times: u32) {
+    say(b"REFUSED ");
+    say_number(count);
+    say(b" times of ");
+    say_number(times);
+}
+
+// Ends a line with whether the tables are as they were.
+pub(crate) fn say_changed(same: bool) {
+    if same {
+        say(b", and no word of the tables changed\n");
+        return;
+    }
+    say(b", and THE TABLES CHANGED\n");
+}
+
 // Ends a line with how many places a call answers with, and what they are.
 pub(crate) fn say_places(reply: Reply, what: &[u8]) {
     if let Reply::Success(count) = reply {

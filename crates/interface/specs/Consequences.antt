@@ -14,17 +14,19 @@ use Rattle.descriptor.specs.declared.Reading.{Reading}
 use Rattle.descriptor.specs.declared.Reading.the-variants.{Null, Malformed, Good}
 use Rattle.reply.specs.declared.Reply.the-variants.{Success, Damaged}
 use Rattle.interface.specs.Basics.{if_then_else_, word}
-use Rattle.interface.specs.Places.{Cap, State, Tables, live, parentless, free, PD, EC, SC, PT, SM, domainWord, ecWord, kindOf, greatestOf, objectPlace, objectIn}
+use Rattle.interface.specs.Places.{Cap, State, Tables, live, shown, parentless, free, PD, EC, SC, PT, SM, domainWord, ecWord, kindOf, greatestOf, objectPlace, objectIn}
 use Rattle.interface.specs.Boot.{hypervisor, root}
 use Rattle.interface.specs.Damage.{sound}
 use Rattle.interface.specs.RangeDescriptors.{describe, reading}
-use Rattle.interface.specs.Effects.{Effect, give, among, below, stripped}
+use Rattle.interface.specs.Effects.{Effect, give, among, below, stripped, run}
 use Rattle.interface.specs.Verdicts.{Call, CALL, CREATE-PD, REVOKE, LOOKUP, callerDomain, replyOf, effectsOf, blockOf}
 use Rattle.interface.specs.Creations.{newPlace, freeRecord, nextDomain}
+use Rattle.interface.specs.Revoke.{cuts}
 use Rattle.interface.specs.Lookup.{spaceCaps}
 use Rattle.interface.specs.Message.{delegateWindow, typedCount, descriptorAt, secondAt, delegateBit, hypervisorBit}
 use Rattle.interface.specs.Rules.{rules, after, hypercallReply, hypercallBlock, hypercallTables}
 use Rattle.interface.specs.Census.{censusOf}
+use Rattle.interface.specs.Refusals.{MaskOutside}
 use Rattle.interface.specs.History.{Event}
 use Rattle.interface.specs.Demand.{tablesAfter, fromBoot}
 
@@ -182,3 +184,10 @@ RevokesExactly =
     let size = 2 ^ range .order in
     after s c .caps place ≡
     (if below (s .caps) first size place || (eqb (c .second) 1 && among first size place) then stripped (range .mask) (s .caps place) else s .caps place))
+
+-- The check of REVOKE's mask refuses only what would change nothing: the revocation of a descriptor whose mask has no permission of its space would leave all that sound tables show as
+-- it is, in whatever domain, with self or without
+abbrev pub NothingLost : Type 0
+NothingLost =
+    (tables : Tables) (descriptor domain : ℕ) (self : Bool) → sound tables ≡ true → MaskOutside descriptor →
+    run (cuts domain self (reading descriptor)) (shown tables) ≡ shown tables

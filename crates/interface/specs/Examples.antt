@@ -99,10 +99,14 @@ placedLine =
           boot .objects number;
     }
 
--- REVOKE (29, 32777, self): the root's EC removes mask 2 below root page 8, and with self 1 from it too
+-- REVOKE (29, descriptor, self), by the root's EC
+abbrev pub rootRevoke : ℕ → ℕ → Call
+rootRevoke descriptor self =
+    record { number = 7; caller = 29; first = descriptor; second = self; third = 0; fourth = 0; fifth = 0; sixth = 0; source = []; target = [] }
+
+-- REVOKE (29, 32777, self) removes mask 2 below root page 8, and with self 1 from it too
 abbrev pub revokeLine : ℕ → Call
-revokeLine self =
-    record { number = 7; caller = 29; first = 32777; second = self; third = 0; fourth = 0; fifth = 0; sixth = 0; source = []; target = [] }
+revokeLine self = rootRevoke 32777 self
 
 -- what the three places show after it
 abbrev pub lineRevoked : ℕ → List Cap
@@ -129,6 +133,24 @@ calledExamples =
     (reading (descriptorWord object 8 3) ≡ Good (record { space = object; base = 8; order = 3; mask = 31 }))
     ∷ (reading (descriptorWord object 4 3) ≡ Malformed)
     ∷ (reading (descriptorWord object 0 6) ≡ Good (record { space = object; base = 0; order = 6; mask = 31 }))
+    ∷ [])
+
+-- what REVOKE answers for masks of a page, a port and an object selector, after boot
+abbrev pub maskExamples : List (Type 0)
+maskExamples =
+    ( -- page 8: masks 0 and 8 have no permission of memory, mask 4 has one
+    (replyOf (rules boot (rootRevoke 32769 0)) ≡ BadPar)
+    ∷ (replyOf (rules boot (rootRevoke 32801 0)) ≡ BadPar)
+    ∷ (replyOf (rules boot (rootRevoke 32785 0)) ≡ Success 0)
+    ∷  -- port 8: mask 2 has none of I/O, mask 3 has one
+    (replyOf (rules boot (rootRevoke 32778 0)) ≡ BadPar)
+    ∷ (replyOf (rules boot (rootRevoke 32782 0)) ≡ Success 0)
+    ∷  -- object selector 40: mask 0 has none, mask 16 has one of a PD's
+    (replyOf (rules boot (rootRevoke 163843 0)) ≡ BadPar)
+    ∷ (replyOf (rules boot (rootRevoke 163907 0)) ≡ Success 0)
+    ∷  -- the null descriptor, with mask 0 and with mask 8
+    (replyOf (rules boot (rootRevoke 0 0)) ≡ Success 0)
+    ∷ (replyOf (rules boot (rootRevoke 32 0)) ≡ Success 0)
     ∷ [])
 
 -- the worked examples
@@ -163,6 +185,8 @@ WorkedExamples =
     ∷ (replyOf (rules boot (rootLookup 35)) ≡ Success 0)
     ∷  -- the line as calls, and objects' alignment and orders
     Each calledExamples
+    ∷  -- the masks of REVOKE
+    Each maskExamples
     ∷ [])
 
 -- a page that was delegated: its number, its permissions, the place it came from, its depth

@@ -86,9 +86,13 @@ namedWords kind = word (0 ∷ 1 ∷ 3 ∷ 3 ∷ 4 ∷ 1 ∷ []) kind
 abbrev pub greatestOf : ℕ → ℕ
 greatestOf kind = word (0 ∷ 31 ∷ 7 ∷ 1 ∷ 3 ∷ 3 ∷ []) kind
 
--- the greatest permissions in a space: memory 7 (read, write, execute from bit 0 on), I/O 1, and for an object those of its kind
+-- the greatest permissions for what a space holds: a page 7 (read, write, execute from bit 0 on), a port 1, an object those of its kind
 abbrev pub greatest : ℕ → ℕ → ℕ
 greatest space kind = if eqb space memory then 7 else if eqb space io then 1 else greatestOf kind
+
+-- the greatest permissions of a space, those that some capability there can have: memory 7, I/O 1, objects 31, a PD's
+abbrev pub greatestIn : ℕ → ℕ
+greatestIn space = greatest space PD
 
 -- the permissions of objects by the numbers of their bits: to create an object of a kind, to bind an SC or a PT to an EC, to call a portal
 abbrev pub createBit : ℕ → ℕ

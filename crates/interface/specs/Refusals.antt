@@ -16,7 +16,7 @@ use Rattle.reply.specs.declared.Reply.the-variants.{Success, ComTim, BadHyp, Ba
 use Rattle.interface.specs.Basics.{word, member}
 use Rattle.interface.specs.Places.{State, Tables, shown, free, PD, EC, SC, PT, SM, ecWord, cpuWord, countWord, createBit, bindScBit, bindPtBit, callBit, kindOf, objectPlace, objectIn}
 use Rattle.interface.specs.Damage.{soundState, sound, hasPd, isEc}
-use Rattle.interface.specs.RangeDescriptors.{typeField, orderField, baseField, reading}
+use Rattle.interface.specs.RangeDescriptors.{typeField, maskField, orderField, baseField, reading}
 use Rattle.interface.specs.Effects.{Effect}
 use Rattle.interface.specs.Verdicts.{Call, CALL, CREATE-PD, CREATE-EC, CREATE-SC, CREATE-PT, CREATE-SM, REVOKE, LOOKUP, SM-CTRL, callerDomain, grant, replyOf}
 use Rattle.interface.specs.Creations.{newPlace, pdPlace, ecPlace}
@@ -223,10 +223,18 @@ pub record LookupRefusedExactly : Type 0 where
   pub lookup-granted : Every LOOKUP (λ s c. ((answer : ℕ) × (rules s c ≡ grant answer [])) ↔ (reading (c .first) ≡ Malformed → ⊥))
   pub lookup-no-other : Every LOOKUP (StatusAmong (0 ∷ 5 ∷ []))
 
--- REVOKE: BAD_PAR exactly for a self word above 1 or a malformed descriptor; otherwise it is granted, answers 0 and leaves the block
+-- a word's mask has no bit among the greatest permissions of its type's space: of memory's 7, so it is a multiple of 8; of I/O's 1, so it is even; of objects' 31, whatever their kinds,
+-- so it is 0
+abbrev pub MaskOutside : ℕ → Type 0
+MaskOutside word =
+    ((typeField word ≡ 1) × (maskField word % 8 ≡ 0)) ⊎ (((typeField word ≡ 2) × (maskField word % 2 ≡ 0)) ⊎ ((typeField word ≡ 3) × (maskField word ≡ 0)))
+
+-- REVOKE: BAD_PAR exactly for a self word above 1, a malformed descriptor, or a mask without a permission of its space; otherwise it is granted, answers 0 and leaves the block
 pub record RevokeRefusedExactly : Type 0 where
-  pub revoke-bad-par : Every REVOKE (λ s c. Answers s c BadPar ↔ ((1 < c .second) ⊎ ((c .second ≤ 1) and-then (reading (c .first) ≡ Malformed))))
-  pub revoke-granted : Every REVOKE (λ s c. ((effects : List Effect) × (rules s c ≡ grant 0 effects)) ↔ ((c .second ≤ 1) and-then (reading (c .first) ≡ Malformed → ⊥)))
+  pub revoke-bad-par : Every REVOKE (λ s c. Answers s c BadPar ↔
+      ((1 < c .second) ⊎ ((c .second ≤ 1) and-then ((reading (c .first) ≡ Malformed) ⊎ ((reading (c .first) ≡ Malformed → ⊥) and-then MaskOutside (c .first))))))
+  pub revoke-granted : Every REVOKE (λ s c. ((effects : List Effect) × (rules s c ≡ grant 0 effects)) ↔
+      ((c .second ≤ 1) and-then (reading (c .first) ≡ Malformed → ⊥) and-then (MaskOutside (c .first) → ⊥)))
   pub revoke-no-other : Every REVOKE (StatusAmong (0 ∷ 5 ∷ []))
 
 -- The census.

@@ -1,3 +1,3 @@
 -- The laws that the functions' proofs cite.
 pub mod EmptyDomainLaws
-pub mod FullRangeLaws
+pub mod MaskedRangeLaws

@@ -14,9 +14,13 @@ abbrev pub Asked : List ℕ → List ℕ → List ℕ → List ℕ → Reply →
 Asked places objects places-after objects-after reply call =
     record { reply = reply; tables = tables places-after objects-after } ≡ answered (tables places objects) call
 
--- a range whose mask has all five bits, so that it takes no permission away
+-- a range with a mask
+abbrev pub maskedRange : ℕ → ℕ → ℕ → ℕ → Range
+maskedRange space base order mask = record { space = space; base = base; order = order; mask = mask }
+
+-- one whose mask has all five bits, so that it takes no permission away
 abbrev pub fullRange : ℕ → ℕ → ℕ → Range
-fullRange space base order = record { space = space; base = base; order = order; mask = wholeMask }
+fullRange space base order = maskedRange space base order wholeMask
 
 -- a call that sends no message: its number, its caller and its first three words
 abbrev pub withoutMessage : ℕ → ℕ → ℕ → ℕ → ℕ → Call

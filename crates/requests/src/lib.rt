@@ -1,5 +1,5 @@
 // The hypercalls by name that send no message, each with the promise that it is that call, for programs that tell how the kernel is used. The root makes all creations and the REVOKE.
-ghost use Prim.Native.Nat.{_≤_, _<_};
+ghost use Prim.Native.Nat.{_≤_, _<_, _^_};
 ghost use mathlib.Core.Path.{_≡_};
 ghost use mathlib.Core.Bool.{true};
 ghost use Rattle.words.specs.Sizes.{greatestOrder, selectors, spaces};
@@ -7,7 +7,7 @@ ghost use Rattle.words.specs.Ranges.{aligned};
 ghost use Rattle.descriptor.specs.Descriptors.{describe, null};
 ghost use Rattle.interface.specs.Boot.{rootEc, exc};
 ghost use Rattle.interface.specs.Verdicts.{CREATE-PD, CREATE-EC, CREATE-PT, REVOKE, LOOKUP};
-ghost use Rattle.requests.specs.Requests.{Asked, cpu, fullRange, withoutMessage};
+ghost use Rattle.requests.specs.Requests.{Asked, cpu, maskedRange, fullRange, withoutMessage};
 use boot::ROOT_EC;
 use descriptor::Descriptor;
 use interface::numbers;
@@ -25,15 +25,23 @@ const CPU: u32 = 0;
 // All bits of a descriptor's mask.
 const FULL_MASK: u32 = 31;
 
+// The descriptor of a range with a mask.
+pub fn masked_range(space: u32, base: u32, order: u32, mask: u32) -> u32
+    requires { ⌜ (space < spaces) × (order ≤ greatestOrder space) × (aligned order base ≡ true) × (base < selectors space) × (mask < 2 ^ 5) ⌝ }
+    ensures { λ r. ⌜ r ≡ describe (maskedRange space base order mask) ⌝ }
+{
+    let FoundSelector::Named(selector) = Selector::of(space, base) else {
+        return Descriptor::NULL.word();
+    };
+    Descriptor::of(space, selector, order, mask).word()
+}
+
 // The descriptor of a range with all mask bits.
 pub fn range(space: u32, base: u32, order: u32) -> u32
     requires { ⌜ (space < spaces) × (order ≤ greatestOrder space) × (aligned order base ≡ true) × (base < selectors space) ⌝ }
     ensures { λ r. ⌜ r ≡ describe (fullRange space base order) ⌝ }
 {
-    let FoundSelector::Named(selector) = Selector::of(space, base) else {
-        return Descriptor::NULL.word();
-    };
-    Descriptor::of(space, selector, order, FULL_MASK).word()
+    masked_range(space, base, order, FULL_MASK)
 }
 
 // The descriptor of one selector.

@@ -1,27 +1,35 @@
--- What REVOKE answers and leaves, by its self word and the reading of its descriptor.
-use Prim.Native.Nat.{ℕ, _+_, _-_, _^_, _≤_, _<_}
+-- What REVOKE answers and leaves, by its self word, the reading of its descriptor and the mask.
+use Prim.Native.Nat.{ℕ, _+_, _^_, _≤_, _<_}
 use mathlib.Core.Path.{_≡_, sym, _∙_}
+use mathlib.Core.Bool.{Bool, true, false}
 use mathlib.Core.List.{List, [], _∷_}
 use native.Mathlib.Omega.{arith}
-use native.Mathlib.Nat.{add-zero}
+use native.Mathlib.Nat.{add-zero, le-refl}
 use lib.Dec.{eqb}
 use lib.Pow.{pow-pos}
 use borrow.Author.Tests.{le-leb, lt-leb}
 use Rattle.words.specs.Sizes.{domains, spaces, placeOf, spaceOf}
 use Rattle.words.specs.Sizes.{places as placeCount}
-use Rattle.words.proofs.PlaceLaws.{start-rises, space-back}
+use Rattle.words.specs.Permissions.{delegated}
+use Rattle.words.proofs.PlaceLaws.{start-rises}
 use Rattle.descriptor.specs.declared.Range.{Range}
 use Rattle.descriptor.specs.declared.Reading.the-variants.{Null, Malformed, Good}
 use Rattle.reply.specs.declared.Reply.the-variants.{Success, BadPar}
 use Rattle.descriptor.specs.Descriptors.{Proper, reading}
-use Rattle.interface.specs.Places.{State, domainWord, capAt, objectAt, capTable, tables, view}
+use Rattle.descriptor.proofs.DescriptorLaws.{proper-space}
+use Rattle.interface.specs.Places.{State, PD, greatest, domainWord, capAt, objectAt, capTable, tables, view}
 use Rattle.interface.specs.Effects.{cut, cutCaps, act, run}
 use Rattle.interface.specs.Verdicts.{Call, refuse, grant, callerDomain}
 use Rattle.interface.specs.Rules.{Runs}
-use Rattle.interface.specs.Revoke.{revoke}
+use Rattle.interface.specs.Revoke.{maskIsOutside, revoke}
 use Rattle.descent.specs.Walks.{InSpace}
 use Rattle.capabilities.specs.Callers.{Called}
 use Rattle.capabilities.proofs.CallerLaws.{places-kept, objects-kept, refused-runs, granted-runs}
+
+-- what a mask keeps of the greatest permissions of its range's space tells whether it lies outside them
+pub keeps-none : (range : Range) {space most mask kept : ℕ} → space ≡ range .space → most ≡ greatest space PD → mask ≡ range .mask → kept ≡ delegated most mask →
+    eqb kept 0 ≡ maskIsOutside (Good range)
+keeps-none range is-space is-most is-mask is-kept = rw (is-kept, is-most, is-mask, is-space)
 
 -- a range's mask, and its places in a domain: the first of them and how many they are
 pub record Aimed (domain : ℕ) (range : Range) (mask first size : ℕ) : Type 0 where
@@ -47,18 +55,12 @@ range-ends {range} aimed proper small =
 pub range-in-space : {domain mask first size : ℕ} {range : Range} → Aimed domain range mask first size → Proper range → domain < domains → InSpace first size
 range-in-space {domain} {mask} {first} {size} {range} aimed proper small =
     let some = pow-pos (range .order) in
-    let there : (k : ℕ) → k < size → spaceOf (first + k) ≡ range .space =
-    λ k l.
-    let at : first + k ≡ placeOf domain (range .space) (range .base + k) = omega (arith, aimed .is-first) in
-    rw at (space-back domain (range .space) (range .base + k) (proper .space-small) (omega (arith, aimed .is-size, proper .ends-inside))) in
-    let begins : spaceOf (first + 0) ≡ range .space = there 0 (omega (arith, aimed .is-size)) in
+    let there : (p : ℕ) → first ≤ p → p < first + size → spaceOf p ≡ range .space =
+    λ p from before. proper-space domain range proper p (omega (arith, aimed .is-first)) (omega (arith, aimed .is-first, aimed .is-size)) in
     record {
       first-place = omega (arith, range-ends aimed proper small, aimed .is-size);
       ends = range-ends aimed proper small;
-      one-space =
-          λ p from before.
-          let back : first + (p - first) ≡ p = omega arith in
-          (rw back at (there (p - first) (omega arith))) ∙ sym (rw (add-zero first) at begins);
+      one-space = λ p from before. there p from before ∙ sym (there first (le-refl first) (omega (arith, aimed .is-size)));
     }
 
 -- the verdict on a call whose self word is 0 or 1, by the reading of its descriptor
@@ -71,10 +73,14 @@ module _ (s : State) (c : Call) (small : c .second ≤ 1) where
   unfolding revoke
   null-verdict e = rw (le-leb (c .second) 1 small, e)
 
-  good-verdict : (range : Range) → reading (c .first) ≡ Good range →
+  outside-verdict : (range : Range) → reading (c .first) ≡ Good range → maskIsOutside (Good range) ≡ true → revoke s c ≡ refuse BadPar
+  unfolding revoke
+  outside-verdict range e h = rw (le-leb (c .second) 1 small, e, h)
+
+  good-verdict : (range : Range) → reading (c .first) ≡ Good range → maskIsOutside (Good range) ≡ false →
       revoke s c ≡ grant 0 (cut (range .mask) (placeOf (callerDomain s c) (range .space) (range .base)) (2 ^ range .order) (eqb (c .second) 1) ∷ [])
   unfolding revoke
-  good-verdict range e = rw (le-leb (c .second) 1 small, e)
+  good-verdict range e h = rw (le-leb (c .second) 1 small, e, h)
 
 module _ {places objects : List ℕ} {caller self : ℕ} (called : Called places objects caller) where
   pub self-refused : 1 < self → (c : Call) → c .second ≡ self → Runs revoke c (tables places objects) (tables places objects) BadPar
@@ -93,11 +99,16 @@ module _ {places objects : List ℕ} {caller self : ℕ} (called : Called places
     null-revokes e c is-first is-second =
         granted-runs called (null-verdict (view places objects) c (rw is-second small) (rw is-first e)) (sym (places-kept called)) (sym (objects-kept called))
 
-    pub range-revokes : {domain mask first size : ℕ} {range : Range} {after : List ℕ} → reading descriptor ≡ Good range →
-        domain ≡ objectAt objects caller domainWord → Aimed domain range mask first size →
+    pub mask-refused : {range : Range} {outside : Bool} → reading descriptor ≡ Good range → outside ≡ maskIsOutside (Good range) → outside ≡ true →
+        (c : Call) → c .first ≡ descriptor → c .second ≡ self → Runs revoke c (tables places objects) (tables places objects) BadPar
+    mask-refused {range} e is-outside h c is-first is-second =
+        refused-runs called (outside-verdict (view places objects) c (rw is-second small) range (rw is-first e) (sym is-outside ∙ h))
+
+    pub range-revokes : {domain mask first size : ℕ} {range : Range} {outside : Bool} {after : List ℕ} → reading descriptor ≡ Good range →
+        outside ≡ maskIsOutside (Good range) → outside ≡ false → domain ≡ objectAt objects caller domainWord → Aimed domain range mask first size →
         after ≡ capTable (cutCaps mask first size (eqb self 1) (capAt places)) →
         (c : Call) → c .caller ≡ caller → c .first ≡ descriptor → c .second ≡ self → Runs revoke c (tables places objects) (tables after objects) (Success 0)
     unfolding run act
-    range-revokes {range} e is-domain aimed is-after c is-caller is-first is-second =
-        granted-runs called (good-verdict (view places objects) c (rw is-second small) range (rw is-first e))
+    range-revokes {range} e is-outside h is-domain aimed is-after c is-caller is-first is-second =
+        granted-runs called (good-verdict (view places objects) c (rw is-second small) range (rw is-first e) (sym is-outside ∙ h))
         (rw (is-second, is-caller, ← is-domain, ← aimed .is-first, ← aimed .is-mask, ← aimed .is-size) is-after) (sym (objects-kept called))

@@ -1,5 +1,5 @@
 // What is proved of the interface's definitions: each function promises one statement of interface/specs and does nothing, so that its proof is the statement's.
-ghost use Rattle.interface.specs.Consequences.{StaysSound, DamagedExactly, RefusedStays, BlocksStay, NothingIsNothing, AddsNoPermission, RevokesExactly};
+ghost use Rattle.interface.specs.Consequences.{StaysSound, DamagedExactly, RefusedStays, BlocksStay, NothingIsNothing, AddsNoPermission, RevokesExactly, NothingLost};
 ghost use Rattle.interface.specs.Refusals.{CallRefusedExactly, CreationsRefusedExactly, SmCtrlRefusedExactly, LookupRefusedExactly, RevokeRefusedExactly, CensusRefusedExactly, DispatchRefusedExactly, MalformedExactly};
 ghost use Rattle.interface.specs.Created.{CreatedExactly};
 ghost use Rattle.interface.specs.Deliveries.{DeliversItems, DeliversWords, DeliversRange};
@@ -60,6 +60,11 @@ pub fn revokes_exactly()
     ensures { λ r. ⌜ RevokesExactly ⌝ }
 {}
 
+// The check of REVOKE's mask refuses only what would change nothing.
+pub fn nothing_lost()
+    ensures { λ r. ⌜ NothingLost ⌝ }
+{}
+
 // Each refusal of CALL has exactly its cause, and CALL is granted exactly where none applies.
 pub fn call_refused_exactly()
     ensures { λ r. ⌜ CallRefusedExactly ⌝ }
@@ -80,7 +85,7 @@ pub fn lookup_refused_exactly()
     ensures { λ r. ⌜ LookupRefusedExactly ⌝ }
 {}
 
-// REVOKE is refused exactly for a self word above 1 or a malformed descriptor.
+// REVOKE is refused exactly for a self word above 1, a malformed descriptor, or a mask without a permission of its space.
 pub fn revoke_refused_exactly()
     ensures { λ r. ⌜ RevokeRefusedExactly ⌝ }
 {}

@@ -128,14 +128,14 @@ impl Writer {
         }
     }
 
-    /// A range of an order below a limit.
-    fn range(&mut self, space: Space, orders: u32) -> u32 {
+    /// A range of an order below a limit, with all mask bits or with some up to a greatest mask.
+    fn range(&mut self, space: Space, orders: u32, greatest: u32) -> u32 {
         let order = self.random.below(orders);
         let base = self.random.below(space.selectors()) >> order << order;
         let mask = if self.random.percent(65) {
             FULL_MASK
         } else {
-            1 + self.random.below(FULL_MASK)
+            1 + self.random.below(greatest)
         };
         Descriptor::new(space, base, order, mask).word()
     }
@@ -148,7 +148,7 @@ impl Writer {
         let window = Descriptor::new(space, 0, space.order_limit(), FULL_MASK).word();
         let items: Vec<(u32, u32)> = (0..1 + self.random.below(4))
             .map(|_| {
-                let range = self.range(space, 4);
+                let range = self.range(space, 4, FULL_MASK);
                 let hotspot = self.random.below(space.selectors()) << HOTSPOT_SHIFT;
                 let second = match self.random.below(10) {
                     0..=2 => 0,
@@ -166,13 +166,15 @@ impl Writer {
             0..=44 => self.lend(),
             45..=59 => {
                 let (domain, space) = (self.domain(), self.pages_or_ports());
-                let (range, self_word) = (self.range(space, 5), self.random.below(2));
+                // A mask without a permission of the space would be refused.
+                let range = self.range(space, 5, space.greatest_permissions());
+                let self_word = self.random.below(2);
                 self.call(Hypercall::Revoke, domain, [range, self_word, 0, 0, 0, 0]);
             }
             60..=79 => {
                 let domain = self.domain();
                 let space = self.random.pick(&Space::ALL).unwrap_or(Space::Memory);
-                let range = self.range(space, 1);
+                let range = self.range(space, 1, FULL_MASK);
                 self.call(Hypercall::Lookup, domain, [range, 0, 0, 0, 0, 0]);
             }
             80..=94 => {

@@ -182,11 +182,12 @@ fn binding_needs_its_bit() {
         let arguments = [40, 32, 33, last];
         for permissions in 1..8 {
             let mut world = World::boot();
-            world.does(
-                REVOKE,
-                ROOT_EC,
-                &[range(OBJECT, 33, 0, !permissions & 7), 1],
-            );
+            // At boot all are there, and a mask without bits is refused.
+            if permissions != 7 {
+                let others = range(OBJECT, 33, 0, 7 & !permissions);
+                world.does(REVOKE, ROOT_EC, &[others, 1]);
+            }
+            assert_eq!(world.row(place(1, OBJECT, 33))[1], permissions);
             if permissions & bit != 0 {
                 world.does(number, ROOT_EC, &arguments);
             } else {
@@ -340,15 +341,134 @@ fn revoke_checks() {
             world.refuses(REVOKE, ROOT_EC, &[descriptor, own], Status::BadPar);
         }
         let before = world.clone();
+        // The root has no pages; its SC has no permission but 1.
         for descriptor in [
             NO_DESCRIPTOR,
             ODD_NULL,
-            range(OBJECT, 0, 6, 0),
+            range(OBJECT, 34, 0, 30),
             range(MEMORY, 0, 6, 31),
         ] {
             assert_eq!(world.does(REVOKE, ROOT_EC, &[descriptor, own]), 0);
             assert!(world == before);
         }
+    }
+}
+
+/// The masks, by space, that have no permission of any capability there.
+const REFUSED_MASKS: [&[u32]; 3] = [
+    &[0, 8, 16, 24],
+    &[0, 2, 4, 6, 8, 10, 12, 14, 16, 18, 20, 22, 24, 26, 28, 30],
+    &[0],
+];
+
+/// What a REVOKE of a range leaves where no place has an ancestor in it but its parent.
+fn revoked(world: &World, domain: u32, range: (u32, u32, u32), mask: u32, own: u32) -> World {
+    let (space, base, order) = range;
+    let start = place(domain, space, base);
+    let holds = |place: u32| (start..start + (1 << order)).contains(&place);
+    let mut after = world.clone();
+    for number in 0..1536 {
+        let [resource, permissions, parent, depth] = world.row(number);
+        if (parent > 0 && holds(parent - 1)) || (own == 1 && holds(number)) {
+            let row = match permissions & !mask {
+                0 => NULL,
+                left => [resource, left, parent, depth],
+            };
+            after.set_row(number, row);
+        }
+    }
+    after
+}
+
+#[test]
+fn revoke_refuses_a_mask_without_a_permission_of_its_space() {
+    let world = World::lenders();
+    // Live places, null ones, and all of a space.
+    let ranges = [
+        (MEMORY, 8, 0),
+        (MEMORY, 20, 2),
+        (MEMORY, 0, 6),
+        (IO, 8, 0),
+        (IO, 63, 0),
+        (IO, 0, 6),
+        (OBJECT, 32, 0),
+        (OBJECT, 40, 0),
+        (OBJECT, 60, 1),
+        (OBJECT, 0, 6),
+    ];
+    for (ec, domain) in [(ROOT_EC, 1), (CHILD_EC, 2)] {
+        for (space, base, order) in ranges {
+            for (mask, own) in (0..32).flat_map(|mask| [(mask, 0), (mask, 1)]) {
+                let arguments = [range(space, base, order, mask), own];
+                let mut after = world.clone();
+                if REFUSED_MASKS[space as usize].contains(&mask) {
+                    after.refuses(REVOKE, ec, &arguments, Status::BadPar);
+                } else {
+                    assert_eq!(after.does(REVOKE, ec, &arguments), 0);
+                    let expected = revoked(&world, domain, (space, base, order), mask, own);
+                    assert!(after == expected, "{ec} revokes {arguments:?}");
+                }
+            }
+        }
+    }
+}
+
+#[test]
+fn revoke_checks_a_mask_after_the_descriptor() {
+    let mut world = World::lenders();
+    let before = world.clone();
+    for mask in 0..32 {
+        let null = [0, 1, 7, 1 << 13].map(|others| others << 7 | mask << 2);
+        let malformed = [
+            range(MEMORY, 8, 7, mask),
+            range(MEMORY, 10, 2, mask),
+            range(MEMORY, 64, 0, mask),
+            range(IO, 8, 31, mask),
+            range(IO, 7, 1, mask),
+            range(IO, 64, 6, mask),
+            range(OBJECT, 0, 7, mask),
+            range(OBJECT, 40, 4, mask),
+        ];
+        for own in [0, 1] {
+            for descriptor in null {
+                assert_eq!(world.does(REVOKE, ROOT_EC, &[descriptor, own]), 0);
+                assert!(world == before);
+            }
+            for descriptor in malformed {
+                world.refuses(REVOKE, ROOT_EC, &[descriptor, own], Status::BadPar);
+            }
+        }
+        for descriptor in null.into_iter().chain(malformed) {
+            world.refuses(REVOKE, ROOT_EC, &[descriptor, 2], Status::BadPar);
+        }
+    }
+    // Caller and tables come first.
+    for descriptor in [MEMORY, IO, OBJECT].map(|space| range(space, 8, 0, 0)) {
+        world.refuses(REVOKE, ROOT_EC, &[descriptor, 0], Status::BadPar);
+        world.refuses(REVOKE, 28, &[descriptor, 0], Status::BadCaller);
+        let mut damaged = world.clone();
+        damaged.set_record(63, [0, 0, 0, 0, 1]);
+        damaged.refuses(REVOKE, ROOT_EC, &[descriptor, 0], Status::Damaged);
+    }
+}
+
+#[test]
+fn refused_revocations_leave_all_to_the_census_and_the_last_one() {
+    let mut world = World::lenders();
+    for (space, selector) in LOANS {
+        let (origin, heir) = (place(1, space, selector), place(2, space, selector));
+        for own in [0, 1] {
+            for &mask in REFUSED_MASKS[space as usize] {
+                let arguments = [range(space, selector, 0, mask), own];
+                world.refuses(REVOKE, ROOT_EC, &arguments, Status::BadPar);
+                assert_eq!(world.heirs(origin), [heir]);
+            }
+        }
+        let mut expected = world.clone();
+        expected.set_row(heir, NULL);
+        world.does(REVOKE, ROOT_EC, &[range(space, selector, 0, 31), 0]);
+        assert!(world == expected);
+        assert!(world.heirs(origin).is_empty());
     }
 }
 

@@ -3,7 +3,7 @@
 use model::descriptor::{Descriptor, Malformed};
 use model::journal::{self, Record};
 use model::tables::Space;
-use model::Hypercall;
+use model::{Hypercall, Status};
 
 use crate::world::*;
 
@@ -171,6 +171,39 @@ fn a_line_revoked_with_its_start() {
 }
 
 #[test]
+fn masks_that_can_take_something() {
+    // What each leaves of a place of the child, where it takes something.
+    let page = [8, 3, place(1, MEMORY, 8) + 1, 2];
+    let examples = [
+        (32_769, 5, None),
+        (32_801, 5, None),
+        (32_785, 0, Some((place(2, MEMORY, 8), page))),
+        (32_778, 5, None),
+        (32_782, 0, Some((place(2, IO, 8), NULL))),
+        (163_843, 5, None),
+        (163_907, 0, None),
+        (0, 0, None),
+        (32, 0, None),
+    ];
+    for (descriptor, status, taken) in examples {
+        let revoke = |before: &World| {
+            let mut after = before.clone();
+            let reply = after.call(REVOKE, ROOT_EC, &[descriptor, 0]);
+            assert_eq!(reply, (status, 0), "descriptor {descriptor}");
+            after
+        };
+        // At boot the root has neither page 8 nor port 8 nor an object at selector 40.
+        assert!(revoke(&World::boot()) == World::boot());
+        let mut expected = World::lenders();
+        let after = revoke(&expected);
+        if let Some((place, row)) = taken {
+            expected.set_row(place, row);
+        }
+        assert!(after == expected, "descriptor {descriptor}");
+    }
+}
+
+#[test]
 fn lookups_after_boot() {
     let mut world = World::boot();
     assert_eq!(
@@ -323,6 +356,17 @@ fn slip_revocation_goes_below_the_children() {
     world.does(REVOKE, ROOT_EC, &[range(MEMORY, 1, 0, 31), 0]);
     assert_eq!(permissions(&world), [7, 0, 0]);
     assert_eq!(world.row(place(2, MEMORY, 3)), NULL);
+}
+
+#[test]
+fn slip_a_revocation_that_can_take_nothing_is_refused() {
+    let mut world = World::lenders();
+    for mask in [0, 2] {
+        let ports = range(IO, 0, 6, mask);
+        world.refuses(REVOKE, ROOT_EC, &[ports, 0], Status::BadPar);
+    }
+    world.does(REVOKE, ROOT_EC, &[range(IO, 0, 6, 3), 0]);
+    assert_eq!(world.row(place(2, IO, 8)), NULL);
 }
 
 #[test]

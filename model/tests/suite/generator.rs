@@ -3,9 +3,11 @@
 
 use std::collections::BTreeSet;
 
+use model::descriptor::Descriptor;
 use model::generator::{journal, Kind};
-use model::journal::{lines, Replay, Step};
-use model::Hypercall;
+use model::journal::{lines, Record, Replay, Step};
+use model::tables::Space;
+use model::{Hypercall, Status};
 
 #[test]
 fn the_same_arguments_give_the_same_bytes() {
@@ -23,6 +25,14 @@ fn the_same_arguments_give_the_same_bytes() {
         }
     }
     assert_eq!(Kind::from_name("other"), None);
+}
+
+/// The space and the mask of a REVOKE that was refused, where nothing but its mask is wrong.
+pub fn refused_mask(record: &Record, status: Status) -> Option<(Space, u32)> {
+    let [descriptor, own, ..] = record.arguments;
+    let range = Descriptor::from_word(descriptor).range().ok()??;
+    let refused = record.hypercall == Hypercall::Revoke && status == Status::BadPar && own < 2;
+    refused.then_some((range.space, range.mask))
 }
 
 /// What some journals reached.
@@ -43,6 +53,9 @@ struct Reached {
     /// Delegations from domain 0, and within one domain.
     from_hypervisor: u32,
     within_domain: u32,
+    /// REVOKEs that succeeded, and those refused for mask 0 and for another, by space.
+    revoked: u32,
+    refused_masks: [[u32; 2]; 3],
     cuts: u32,
     bads: u32,
 }
@@ -58,6 +71,10 @@ fn reach(kind: Kind, seeds: u64, count: usize) -> Reached {
             reached.statuses.insert((call.number(), status));
             if call == Hypercall::Call && status == 0 {
                 items(&replay, &mut reached);
+            }
+            reached.revoked += u32::from(call == Hypercall::Revoke && status == 0);
+            if let Some((space, mask)) = refused_mask(&replay.record, reply.status) {
+                reached.refused_masks[space as usize][usize::from(mask != 0)] += 1;
             }
         }
         let rows = replay.machine.places.chunks(4).zip(0u32..);
@@ -163,6 +180,24 @@ fn junk_journals_are_mostly_refused() {
         assert!(
             reached.statuses.iter().any(|&(_, seen)| seen == status),
             "status {status} was never met"
+        );
+    }
+}
+
+#[test]
+fn one_revocation_in_eight_is_refused_for_its_mask() {
+    for kind in Kind::ALL.into_iter().filter(|&kind| kind != Kind::Junk) {
+        let reached = reach(kind, 20, 300);
+        let [memory, io, object] = reached.refused_masks;
+        // Every mask of objects but 0 has a permission of some object.
+        let reaches = [memory, io].iter().flatten().all(|&count| count > 0) && object[0] > 0;
+        assert!(reaches && object[1] == 0, "{} journals", kind.name());
+        let refused: u32 = reached.refused_masks.iter().flatten().sum();
+        let all = refused + reached.revoked;
+        assert!(
+            refused * 16 > all && refused * 5 < all,
+            "{refused} of {all} in {} journals",
+            kind.name()
         );
     }
 }

@@ -217,6 +217,10 @@ impl History {
             _ if own > 1 => return Err(Status::BadPar),
             Named::Malformed => return Err(Status::BadPar),
             Named::Null => return Ok(0),
+            // Pages have three bits, ports one and objects five; a mask must have one of them.
+            Named::Range { space, mask, .. } if mask % [8, 2, 32][space as usize] == 0 => {
+                return Err(Status::BadPar)
+            }
             Named::Range {
                 space,
                 base,

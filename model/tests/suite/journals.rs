@@ -1,7 +1,7 @@
 //! The journals of the replay program's run: `crates/replay` holds them, the
 //! arguments and what must be printed. From the root of the repository
 //! `cargo run --release --offline --manifest-path model/Cargo.toml --bin journals -- crates/replay`
-//! writes all of it again, but for the eight journals that have traces.
+//! writes all of it again, but for the eleven journals that have traces.
 
 use std::collections::BTreeSet;
 use std::fs;
@@ -13,7 +13,7 @@ use model::stored::{Source, STORED};
 use model::tables::{Domain, Place, Selector, Space};
 use model::{Hypercall, Status};
 
-use crate::generator::every_status_of_every_call;
+use crate::generator::{every_status_of_every_call, refused_mask};
 
 /// A file of the replay program's crate.
 pub fn replay_file(name: &str) -> PathBuf {
@@ -122,6 +122,8 @@ struct Features {
     revoked_beyond_children: u32,
     revoked_inside_the_range: u32,
     revoked_with_self: u32,
+    /// REVOKEs refused for mask 0 and for another, by space.
+    refused_masks: [[u32; 2]; 3],
     initial_ranges: u32,
     new_selector_in_initial_range: u32,
 }
@@ -202,6 +204,9 @@ impl Features {
         self.all_records += u32::from(used == 64);
         self.all_domains += u32::from(domains == 7);
         self.depth_31 += u32::from(after.places.chunks(4).any(|row| row[3] == 31));
+        if let Some((space, mask)) = refused_mask(record, status) {
+            self.refused_masks[space as usize][usize::from(mask != 0)] += 1;
+        }
         match (record.hypercall, status) {
             (Hypercall::CreatePd, Status::NoRoom) if used < 64 => self.no_room_for_a_domain += 1,
             (Hypercall::CreatePd, Status::NoRoom) if domains < 7 => self.no_room_for_a_record += 1,
@@ -398,6 +403,11 @@ fn the_stored_journals_hold_every_feature() {
             "a revoked place of the range, self 1",
             all.revoked_with_self,
         ),
+        ("mask 0 refused for pages", all.refused_masks[0][0]),
+        ("another mask refused for pages", all.refused_masks[0][1]),
+        ("mask 0 refused for ports", all.refused_masks[1][0]),
+        ("another mask refused for ports", all.refused_masks[1][1]),
+        ("mask 0 refused for objects", all.refused_masks[2][0]),
         ("an initial range", all.initial_ranges),
         (
             "an initial range with the new selector",
@@ -408,4 +418,37 @@ fn the_stored_journals_hold_every_feature() {
         assert!(count > 0, "no journal holds {feature}");
     }
     assert!(all.records > 10_000 && all.longest >= 3_000);
+}
+
+#[test]
+fn each_generated_journal_holds_what_its_name_says() {
+    for (name, source) in STORED {
+        if !matches!(source, Source::Generated(..)) {
+            continue;
+        }
+        let mut held = Features::default();
+        held.journal(&source.bytes().unwrap_or_default());
+        let (subject, _) = name.rsplit_once('-').expect("a subject and a number");
+        let counts = match subject {
+            "every-call" => Hypercall::ALL
+                .map(|call| u32::from(held.statuses.contains(&(call.number(), 0))))
+                .to_vec(),
+            "depth-limit" => vec![held.depth_31, held.refused_at_depth_31],
+            "all-domains" => vec![held.all_domains, held.no_room_for_a_domain],
+            "all-records" => vec![held.all_records, held.no_room_for_a_record],
+            "hypervisor-flag" => vec![
+                held.flag_of_the_root,
+                held.flag_of_another_over_own,
+                held.flag_of_another_over_nothing,
+            ],
+            "overlap-in-one-domain" => vec![
+                held.onto_itself,
+                held.beside_itself,
+                held.revoked_inside_the_range,
+            ],
+            "unrelated-words" => vec![],
+            _ => panic!("{name} has no meaning here"),
+        };
+        assert!(counts.iter().all(|&count| count > 0), "{name}: {counts:?}");
+    }
 }

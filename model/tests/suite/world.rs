@@ -78,6 +78,9 @@ pub const TO_ROOT_2: u32 = 39;
 pub const TO_ROOT: u32 = 40;
 pub const FREE_SELECTOR: u32 = 50;
 
+/// What the root has lent in `World::lenders`, by space and selector.
+pub const LOANS: [(u32, u32); 4] = [(MEMORY, 8), (IO, 8), (OBJECT, 32), (OBJECT, TO_ROOT)];
+
 impl World {
     pub fn boot() -> World {
         let machine = Machine::boot();
@@ -101,6 +104,23 @@ impl World {
         world.does(CREATE_PT, ROOT_EC, &[TO_ROOT, 32, 33, 0, 0, 0]);
         let portal = range(OBJECT, TO_ROOT, 0, 31);
         assert_eq!(world.gives(TO_CHILD, portal, portal, hot(0)), 1);
+        world
+    }
+
+    /// The partners, where a semaphore, object 37, takes the place of the portal to 29, and the
+    /// root lends it, its own PD, page 8 and port 8 to the child's same selectors.
+    pub fn lenders() -> World {
+        let mut world = World::partners();
+        world.does(REVOKE, ROOT_EC, &[range(OBJECT, TO_ROOT, 0, 31), 1]);
+        world.does(CREATE_SM, ROOT_EC, &[TO_ROOT, 32, 0]);
+        for one in [range(MEMORY, 8, 0, 31), range(IO, 8, 0, 31)] {
+            let taken = world.gives(TO_ROOT_2, one, one, hot(0) | FROM_HYPERVISOR);
+            assert_eq!(taken, 1);
+        }
+        for (space, selector) in LOANS {
+            let one = range(space, selector, 0, 31);
+            assert_eq!(world.gives(TO_CHILD, one, one, hot(0)), 1);
+        }
         world
     }
 

@@ -1,19 +1,38 @@
--- Revocation is exact: a REVOKE that succeeds takes one cut of its range, or no step for a null descriptor.
-use Prim.Native.Nat.{ℕ}
+-- Revocation is exact: a REVOKE that succeeds takes one cut of its range, or no step for a null descriptor. And the cut of a range whose mask has no permission of its space would
+-- change nothing.
+use Prim.Native.Nat.{ℕ, zero, suc, _+_, _^_, _<_}
 use mathlib.Core.Path.{_≡_, refl, sym, ap, _∙_}
-use mathlib.Core.Bool.{Bool, not}
+use mathlib.Core.Logic.{⊎-elim}
+use mathlib.Core.Bool.{Bool, true, false, not, _&&_, _||_, false≢true}
 use native.Mathlib.Omega.{arith}
-use lib.Dec.{eqb, leb}
+use lib.Dec.{eqb, leb, ltb}
+use borrow.Author.Tests.{ltb-true, ltb-false, leb-true, eqb-true, ne-eqb}
+use Rattle.words.specs.Sizes.{places, placeOf, spaceOf}
+use Rattle.words.specs.Permissions.{delegated, revoked, within}
+use Rattle.words.proofs.BitLaws.{within-le, delegated-respects, revoked-kept}
+use Rattle.descriptor.specs.declared.Range.{Range}
 use Rattle.descriptor.specs.declared.Reading.{Reading}
 use Rattle.descriptor.specs.declared.Reading.the-variants.{Null, Malformed, Good}
+use Rattle.descriptor.specs.Descriptors.{Proper}
+use Rattle.descriptor.proofs.DescriptorLaws.{good-proper, proper-space}
 use Rattle.reply.specs.declared.Reply.the-variants.{Success, BadPar}
-use Rattle.interface.specs.Places.{State}
+use Rattle.interface.specs.Basics.{any}
+use Rattle.interface.specs.Places.{Cap, State, Tables, live, nothing, shown, greatestIn}
+use Rattle.interface.specs.Damage.{sound}
 use Rattle.interface.specs.RangeDescriptors.{reading, malformed}
-use Rattle.interface.specs.Effects.{cutCaps, act, run}
+use Rattle.interface.specs.Effects.{among, below, stripped, cutCaps, act, run}
 use Rattle.interface.specs.Verdicts.{Call, REVOKE, grant, require_else_then_, callerDomain, replyOf}
-use Rattle.interface.specs.Revoke.{cuts, revoke}
+use Rattle.interface.specs.Revoke.{maskIsOutside, cuts, revoke}
 use Rattle.interface.specs.Rules.{hypercall, rules, after}
-use Rattle.interface.specs.Consequences.{RevokesExactly}
+use Rattle.interface.specs.Consequences.{RevokesExactly, NothingLost}
+use Rattle.interface.proofs.Basics.BoolLaws.{cases, and-left, and-right, either}
+use Rattle.interface.proofs.Sound.Soundness.{Sound, sound-facts}
+use Rattle.interface.proofs.Sound.PlaceFacts.{null-cap, ChildOf, Lineage, no-parent, child, live-facts}
+use Rattle.interface.proofs.Sound.GreatestLaws.{permissions-within}
+use Rattle.interface.proofs.Sound.CutSound.{ancestors-none, below-child}
+use Rattle.interface.proofs.Sound.MessageFits.{ReadProper}
+use Rattle.interface.proofs.Refusals.MaskRefusals.{fields-outside}
+use Rattle.interface.proofs.Tables.TableLaws.{cap-at-end, places-long, sound-sized, sound-shown, state-same}
 use Rattle.interface.proofs.Tables.VerdictLaws.{succeeds, rule-succeeds, after-verdict}
 
 -- a revocation moves no object
@@ -30,10 +49,12 @@ unfolding hypercall revoke
 after-revoke s c answer n h =
     let read = reading (c .first) in
     let last = grant 0 (cuts (callerDomain s c) (eqb (c .second) 1) read) in
-    let checked = require not (malformed read) else BadPar then last in
+    let masked = require not (maskIsOutside read) else BadPar then last in
+    let checked = require not (malformed read) else BadPar then masked in
     let by-rule = rule-succeeds s c answer revoke (rw n) h in
     let behind-self = by-rule ∙ succeeds (leb (c .second) 1) BadPar checked answer (λ z. omega arith) (ap replyOf (sym by-rule) ∙ h) in
-    let granted = behind-self ∙ succeeds (not (malformed read)) BadPar last answer (λ z. omega arith) (ap replyOf (sym behind-self) ∙ h) in
+    let behind-reading = behind-self ∙ succeeds (not (malformed read)) BadPar masked answer (λ z. omega arith) (ap replyOf (sym behind-self) ∙ h) in
+    let granted = behind-reading ∙ succeeds (not (maskIsOutside read)) BadPar last answer (λ z. omega arith) (ap replyOf (sym behind-reading) ∙ h) in
     after-verdict s c last granted
 
 -- no step leaves the state, and a cut leaves each place as its definition says
@@ -45,3 +66,88 @@ revokes-exactly s c answer n h =
       (λ e. rw (left, e)),
       (λ range e place. rw (left, e)),
     )
+
+-- the live places below places of a space are of that space
+module _ (s : State) (k : Sound s) (first size space : ℕ) (there : (q : ℕ) → among first size q ≡ true → spaceOf q ≡ space) where
+  one-step : (p : ℕ) → Lineage s p → below (s .caps) first size p ≡ true → ((q : ℕ) → ChildOf s p q → below (s .caps) first size q ≡ true → spaceOf q ≡ space) →
+      spaceOf p ≡ space
+  unfolding below any
+  one-step p (no-parent e _) b next = absurd (false≢true (rw (ancestors-none (s .caps) p e) at b))
+  one-step p (child q c) b next =
+      sym (c .same-space) ∙
+      ⊎-elim (λ (a : among first size q ≡ true). there q a) (λ (d : below (s .caps) first size q ≡ true). next q c d)
+      (either (among first size q) (below (s .caps) first size q) (sym (below-child (s .caps) first size p q (c .linked) (c .deeper)) ∙ b))
+
+  below-space : (depth p : ℕ) → s .caps p .depth ≡ depth → p < places → live (s .caps p) ≡ true → below (s .caps) first size p ≡ true → spaceOf p ≡ space
+  below-space zero p d l t b = one-step p (live-facts s p (k .lives p l) t .lineage) b (λ q c _. absurd (omega (arith, c .deeper)))
+  below-space (suc depth) p d l t b =
+      one-step p (live-facts s p (k .lives p l) t .lineage) b (λ q c e. below-space depth q (omega (arith, c .deeper)) (c .is-place) (c .alive) e)
+
+-- stripping takes nothing from a null place, and nothing from a live one whose permissions are among some of which the mask has none
+stripped-nothing : (mask : ℕ) → stripped mask nothing ≡ nothing
+unfolding stripped
+stripped-nothing mask = refl
+
+stripped-same : (mask most : ℕ) (cap : Cap) → delegated most mask ≡ 0 → within (cap .permissions) most ≡ true → live cap ≡ true → stripped mask cap ≡ cap
+unfolding stripped
+stripped-same mask most cap none inside alive =
+    let few = within-le (delegated (cap .permissions) mask) (delegated most mask) (delegated-respects (cap .permissions) most mask inside) in
+    let same : revoked (cap .permissions) mask ≡ cap .permissions = revoked-kept (cap .permissions) mask (omega arith) in
+    rw (same, ne-eqb (cap .permissions) 0 (omega (arith, ltb-true 0 (cap .permissions) alive)))
+
+module _ (tables : Tables) (good : sound tables ≡ true) (domain : ℕ) (self : Bool) where
+  abbrev s : State
+  s = shown tables
+
+  k : Sound s
+  k = sound-facts s (sound-shown tables good)
+
+  module _ (range : Range) (proper : Proper range) (none : delegated (greatestIn (range .space)) (range .mask) ≡ 0) where
+    abbrev first : ℕ
+    first = placeOf domain (range .space) (range .base)
+
+    abbrev size : ℕ
+    size = 2 ^ range .order
+
+    range-space : (p : ℕ) → among first size p ≡ true → spaceOf p ≡ range .space
+    range-space p h =
+        proper-space domain range proper p (leb-true first p (and-left (leb first p) (ltb p (first + size)) h))
+        (ltb-true p (first + size) (and-right (leb first p) (ltb p (first + size)) h))
+
+    -- a live place that is cut is of the range's space
+    reached-space : (p : ℕ) → p < places → live (s .caps p) ≡ true → (below (s .caps) first size p || (self && among first size p)) ≡ true → spaceOf p ≡ range .space
+    reached-space p l t h =
+        ⊎-elim
+        (λ (b : below (s .caps) first size p ≡ true). below-space s k first size (range .space) range-space (s .caps p .depth) p refl l t b)
+        (λ (a : (self && among first size p) ≡ true). range-space p (and-right self (among first size p) a))
+        (either (below (s .caps) first size p) (self && among first size p) h)
+
+    stripped-stays : (p : ℕ) → (below (s .caps) first size p || (self && among first size p)) ≡ true → stripped (range .mask) (s .caps p) ≡ s .caps p
+    stripped-stays p h =
+        cases (ltb p places)
+        (λ (i : ltb p places ≡ true).
+        let l : p < places = ltb-true p places i in
+        cases (live (s .caps p))
+        (λ (t : live (s .caps p) ≡ true).
+        stripped-same (range .mask) (greatestIn (spaceOf p)) (s .caps p) (rw (reached-space p l t h) none) (permissions-within s p k l t) t)
+        (λ (f : live (s .caps p) ≡ false). rw (null-cap s p (k .nulls p l) f) (stripped-nothing (range .mask))))
+        (λ (o : ltb p places ≡ false).
+        rw (cap-at-end (tables .places) (places-long tables (sound-sized tables good)) p (ltb-false p places o)) (stripped-nothing (range .mask)))
+
+    cap-stays : (p : ℕ) → cutCaps (range .mask) first size self (s .caps) p ≡ s .caps p
+    unfolding cutCaps
+    cap-stays p =
+        cases (below (s .caps) first size p || (self && among first size p))
+        (λ (h : (below (s .caps) first size p || (self && among first size p)) ≡ true). rw h (stripped-stays p h))
+        (λ (h : (below (s .caps) first size p || (self && among first size p)) ≡ false). rw h)
+
+  lost-none : (read : Reading) → ReadProper read → ((read ≡ Malformed → ⊥) → maskIsOutside read ≡ true) → run (cuts domain self read) s ≡ s
+  unfolding run act
+  lost-none Null proper outside = refl
+  lost-none Malformed proper outside = refl
+  lost-none (Good range) proper outside =
+      state-same _ s (cap-stays range (proper range refl) (eqb-true (delegated (greatestIn (range .space)) (range .mask)) 0 (outside (λ e. false≢true (ap malformed e))))) (λ r i. refl)
+
+pub nothing-lost : NothingLost
+nothing-lost tables descriptor domain self good outside =
+    lost-none tables good domain self (reading descriptor) (good-proper descriptor) (λ formed. fields-outside descriptor formed outside)

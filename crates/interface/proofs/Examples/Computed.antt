@@ -10,7 +10,7 @@ use Rattle.interface.specs.Places.{Cap, State, PD, domainWord}
 use Rattle.interface.specs.Boot.{boot, hypervisor, root}
 use Rattle.interface.specs.Damage.{pdsBelow, isEc, soundState}
 use Rattle.interface.specs.Effects.{Effect, give, cut, run, fillsOne, filled, make, hold}
-use Rattle.interface.specs.Verdicts.{CALL, CREATE-PD, LOOKUP, grant, deliver, replyOf, blockOf}
+use Rattle.interface.specs.Verdicts.{CALL, CREATE-PD, REVOKE, LOOKUP, grant, deliver, replyOf, blockOf}
 use Rattle.interface.specs.Creations.{freeRecord, creation, createSm, createPd}
 use Rattle.interface.specs.Revoke.{revoke}
 use Rattle.interface.specs.Lookup.{uniform, largest, around, found, lookup}
@@ -18,7 +18,7 @@ use Rattle.interface.specs.Message.{payloadFits, sourceDomain, delegateI
 use Rattle.interface.specs.PortalCalls.{portalCall}
 use Rattle.interface.specs.Rules.{hypercall, called, rules, after}
 use Rattle.interface.specs.Journal.{bodyBytes, bodyWord, recordedCall, done, short, unknown, ended, beginning, readBy, contentsFrom, stopLines, replay, width, spelled, spelledLines}
-use Rattle.interface.specs.Examples.{Each, rootLookup, placedLine, revokeLine, calledExamples, neighbour, messageCap, messageRecord, messageState, blockBefore, blockReceived, exampleMessage, WorkedExamples, MessageExample, exampleJournal, JournalExample, lookupRecord, JournalStops, exampleRange, RangeExample, LayoutExamples}
+use Rattle.interface.specs.Examples.{Each, rootLookup, placedLine, rootRevoke, revokeLine, calledExamples, maskExamples, neighbour, messageCap, messageRecord, messageState, blockBefore, blockReceived, exampleMessage, WorkedExamples, MessageExample, exampleJournal, JournalExample, lookupRecord, JournalStops, exampleRange, RangeExample, LayoutExamples}
 use Rattle.interface.proofs.Tables.VerdictLaws.{sound-rules, after-verdict}
 use Rattle.interface.proofs.Sound.Soundness.{sound-facts, facts-sound, tested-sound, damage-rules}
 use Rattle.interface.proofs.History.BootLaws.{boot-tables, boot-sound}
@@ -52,6 +52,16 @@ called-examples =
     facts-sound (after placedLine (revokeLine 1)) (after-sound placedLine (revokeLine 1) (sound-facts placedLine placed-sound)) and
     ap (λ (s : State). s .caps 8) (revoke-after true) and refl and refl and refl and tt
 
+-- the root's REVOKE after boot
+revoked-at : (descriptor : ℕ) → rules boot (rootRevoke descriptor 0) ≡ called boot (rootRevoke descriptor 0) (hypercall REVOKE)
+revoked-at descriptor = sound-rules boot (rootRevoke descriptor 0) boot-sound
+
+mask-examples : Each maskExamples
+unfolding dispatch descriptors isEc boot-tables revoke
+mask-examples =
+    ap replyOf (revoked-at 32769) and ap replyOf (revoked-at 32801) and ap replyOf (revoked-at 32785) and ap replyOf (revoked-at 32778) and
+    ap replyOf (revoked-at 32782) and ap replyOf (revoked-at 163843) and ap replyOf (revoked-at 163907) and ap replyOf (revoked-at 0) and ap replyOf (revoked-at 32) and tt
+
 -- the root's LOOKUP after boot
 looked-up : (selector : ℕ) → rules boot (rootLookup selector) ≡ called boot (rootLookup selector) (hypercall LOOKUP)
 looked-up selector = sound-rules boot (rootLookup selector) boot-sound
@@ -60,7 +70,7 @@ pub worked-examples : WorkedExamples
 unfolding dispatch descriptors isEc boot-tables steps listed allBelow lowest uniform largest around found lookup
 worked-examples =
     refl and refl and refl and refl and refl and refl and refl and refl and refl and refl and refl and refl and refl and refl and refl and refl and
-    ap replyOf (looked-up 32) and ap replyOf (looked-up 35) and called-examples and tt
+    ap replyOf (looked-up 32) and ap replyOf (looked-up 35) and called-examples and mask-examples and tt
 
 -- to unfold this is to unfold what the lines of journals on states compute by
 unfoldable journals : Unit {0}

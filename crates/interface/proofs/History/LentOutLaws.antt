@@ -7,13 +7,13 @@ use native.Mathlib.Omega.{arith}
 use lib.Dec.{eqb, ltb, leb}
 use lib.ListN.{length, drop}
 use borrow.Author.Tests.{eq-eqb, ne-eqb, eqb-true, lt-ltb, le-ltb, ltb-true, ltb-false, leb-true, le-leb, lt-leb}
-use Rattle.words.specs.Sizes.{memory, io, spaceOf, places}
+use Rattle.words.specs.Sizes.{spaceOf, places}
 use Rattle.words.specs.Permissions.{revoked}
 use Rattle.words.proofs.BitLaws.{revoked-ones}
 use Rattle.words.proofs.PlaceLaws.{made-so}
 use Rattle.reply.specs.declared.Reply.the-variants.{Success}
 use Rattle.interface.specs.Basics.{if_then_else_, any}
-use Rattle.interface.specs.Places.{State, Tables, live, nothing, capAt, placeTable, objectTable, tablesOf, greatest, greatestOf, kindOf}
+use Rattle.interface.specs.Places.{State, Tables, live, nothing, capAt, placeTable, objectTable, tablesOf}
 use Rattle.interface.specs.Effects.{cut, chain, ancestors, among, below, stripped, cutCaps, act, run}
 use Rattle.interface.specs.Verdicts.{Call, grant, replyOf, blockOf}
 use Rattle.interface.specs.Revoke.{revoke}
@@ -25,7 +25,7 @@ use Rattle.interface.proofs.Basics.BoolLaws.{cases, and-left, and-right
 use Rattle.interface.proofs.Basics.GatherLaws.{gather-same, gather-member, gather-rises}
 use Rattle.interface.proofs.Basics.ChainLaws.{chain-any-none, any-same}
 use Rattle.interface.proofs.Sound.Soundness.{Sound, facts-sound}
-use Rattle.interface.proofs.Sound.PlaceFacts.{live-facts}
+use Rattle.interface.proofs.Sound.GreatestLaws.{five-bits, whole-some, permissions-most}
 use Rattle.interface.proofs.History.HistoryLaws.{Valid, latest-none, standing-none, held-none, held-is}
 use Rattle.interface.proofs.History.CutLaws.{below-told, stripped-none}
 use Rattle.interface.proofs.History.NoteLaws.{told-live, live-holds, cut-follows}
@@ -107,26 +107,10 @@ module _ (h : History) (valid : Valid h) where
         go (suc k) e = below-held other k e ∙ sym (heir-held other k e)
 
 -- no permission is past the five bits of a mask
-greatest-kind : (kind : ℕ) → greatestOf kind ≤ wholeMask
-greatest-kind zero = omega arith
-greatest-kind (suc zero) = omega arith
-greatest-kind (suc (suc zero)) = omega arith
-greatest-kind (suc (suc (suc zero))) = omega arith
-greatest-kind (suc (suc (suc (suc zero)))) = omega arith
-greatest-kind (suc (suc (suc (suc (suc zero))))) = omega arith
-greatest-kind (suc (suc (suc (suc (suc (suc kind)))))) = omega arith
-
-greatest-small : (space kind : ℕ) → greatest space kind ≤ wholeMask
-greatest-small space kind =
-    cases (eqb space memory) (λ (m : eqb space memory ≡ true). rw m (omega arith))
-    (λ (m : eqb space memory ≡ false).
-    cases (eqb space io) (λ (i : eqb space io ≡ true). rw (m, i) (omega arith)) (λ (i : eqb space io ≡ false). rw (m, i) (greatest-kind kind)))
-
 pub permissions-small : (s : State) (p : ℕ) → Sound s → p < places → s .caps p .permissions < 2 ^ 5
 permissions-small s p sound l =
     cases (live (s .caps p))
-    (λ (t : live (s .caps p) ≡ true).
-    omega (arith, live-facts s p (sound .lives p l) t .bounded, greatest-small (spaceOf p) (kindOf s (s .caps p .resource))))
+    (λ (t : live (s .caps p) ≡ true). omega (arith, permissions-most s p sound l t, five-bits (spaceOf p)))
     (λ (f : live (s .caps p) ≡ false). omega (arith, ltb-false 0 (s .caps p .permissions) f))
 
 -- what a call does on the tables of a history is what it does on what the history shows
@@ -176,7 +160,7 @@ module _ (h : History) (valid : Valid h) (sound : Sound (told h)) where
     unfolding hypercall
     is-rule = rw (revokes .is-revoke)
 
-    -- the call is granted, with one step
+    -- the whole mask has a permission of every space, so the call is granted, with one step
     granted : rules (told h) c ≡ grant 0 (cut wholeMask place 1 false ∷ [])
     unfolding rules called revoke
     granted =
@@ -186,6 +170,7 @@ module _ (h : History) (valid : Valid h) (sound : Sound (told h)) where
           revokes .by-ec,
           revokes .without-self,
           revokes .descriptor,
+          whole-some (spaceOf place),
           revokes .of-domain,
           made-so place,
         )

@@ -1,7 +1,7 @@
 -- Each refusal of SM_CTRL, LOOKUP, REVOKE and the census has exactly its cause.
 use Prim.Native.Nat.{ℕ, _+_, _-_, _≤_, _<_}
 use mathlib.Core.Path.{_≡_, refl, sym, ap, _∙_}
-use mathlib.Core.Logic.{_↔_}
+use mathlib.Core.Logic.{_↔_, _⊎_, ⊎-map}
 use mathlib.Core.Bool.{Bool, true, false, not, cond, false≢true}
 use mathlib.Core.List.{List, [], _∷_}
 use native.Mathlib.Omega.{arith}
@@ -21,17 +21,18 @@ use Rattle.interface.specs.Damage.{soundState, sound, isEc}
 use Rattle.interface.specs.RangeDescriptors.{reading, malformed}
 use Rattle.interface.specs.Effects.{Effect, count, act, run}
 use Rattle.interface.specs.Verdicts.{Call, REVOKE, LOOKUP, SM-CTRL, callerDomain, Verdict, grant, replyOf}
-use Rattle.interface.specs.Revoke.{cuts, revoke}
+use Rattle.interface.specs.Revoke.{maskIsOutside, cuts, revoke}
 use Rattle.interface.specs.Lookup.{found, lookup}
 use Rattle.interface.specs.Semaphores.{smCtrl}
 use Rattle.interface.specs.Rules.{hypercall, rules}
 use Rattle.interface.specs.Census.{CensusResult, descendants, counted, censusOf}
-use Rattle.interface.specs.Refusals.{namedPlace, semaphoreCount, CountBecomes, SmCtrlRefusedExactly, LookupRefusedExactly, RevokeRefusedExactly, CensusRefusedExactly}
+use Rattle.interface.specs.Refusals.{namedPlace, semaphoreCount, CountBecomes, SmCtrlRefusedExactly, LookupRefusedExactly, MaskOutside, RevokeRefusedExactly, CensusRefusedExactly}
 use Rattle.interface.proofs.Basics.BoolLaws.{cases, either-way}
 use Rattle.interface.proofs.Basics.PutLaws.{put-same, put-other}
 use Rattle.interface.proofs.Sound.Soundness.{sound-facts}
 use Rattle.interface.proofs.Tables.VerdictLaws.{after-verdict}
 use Rattle.interface.proofs.Refusals.ChecksInTurn.{Decides, decides-at-most, decides-below, decides-some, decides-inside, decides-contrary, Refusal, success-no-refusal, Check, checked, inTurn, Cause, Passed, neither-reply, caused-exactly, each-passed, each-passes, status-among, verdictInTurn, last-stands}
+use Rattle.interface.proofs.Refusals.MaskRefusals.{outside-fields, fields-outside}
 use Rattle.interface.proofs.Refusals.RefusalLaws.{by-rule, refused-exactly, granted-exactly, granted-somehow, no-other, decides-holding, passed-grants}
 
 -- SM_CTRL.
@@ -132,6 +133,10 @@ read-malformed (Good range) h = absurd (false≢true h)
 decides-malformed : (read : Reading) → Decides (not (malformed read)) (read ≡ Malformed → ⊥) (read ≡ Malformed)
 decides-malformed read = decides-contrary (not (malformed read)) (λ h. read-malformed read (not-false (malformed read) h)) (λ h. rw h)
 
+-- a check that a test fails
+decides-not : (test : Bool) → Decides (not test) (test ≡ true → ⊥) (test ≡ true)
+decides-not test = decides-contrary (not test) (not-false test) (λ h. rw h)
+
 module _ (s : State) (c : Call) (sound : soundState s ≡ true) (e : isEc s (c .caller) ≡ true) where
   abbrev lookupChecks : List Check
   lookupChecks = checked (decides-malformed (reading (c .first))) BadPar refl ∷ []
@@ -155,20 +160,38 @@ module _ (s : State) (c : Call) (sound : soundState s ≡ true) (e : isEc s (c .
     lookup-status = no-other s c lookupChecks _ _ refl lookup-checked (0 ∷ 5 ∷ []) refl refl
 
   abbrev revokeChecks : List Check
-  revokeChecks = checked (decides-at-most (c .second) 1) BadPar refl ∷ checked (decides-malformed (reading (c .first))) BadPar refl ∷ []
+  revokeChecks =
+      checked (decides-at-most (c .second) 1) BadPar refl ∷
+      checked (decides-malformed (reading (c .first))) BadPar refl ∷
+      checked (decides-not (maskIsOutside (reading (c .first)))) BadPar refl ∷ []
+
+  -- the cause of a refusal, with the check of the mask in the word's fields
+  in-fields : Cause revokeChecks BadPar ↔
+      ((1 < c .second) ⊎ ((c .second ≤ 1) × ((reading (c .first) ≡ Malformed) ⊎ ((reading (c .first) ≡ Malformed → ⊥) × MaskOutside (c .first)))))
+  in-fields = (
+    ⊎-map (λ l. l) (λ x. (x .0, ⊎-map (λ m. m) (λ y. (y .0, outside-fields (c .first) (y .0) (y .1))) (x .1))),
+    ⊎-map (λ l. l) (λ x. (x .0, ⊎-map (λ m. m) (λ y. (y .0, fields-outside (c .first) (y .0) (y .1))) (x .1))),
+  )
 
   module _ (n : c .number ≡ REVOKE) where
     revoke-checked : rules s c ≡ verdictInTurn revokeChecks (grant 0 (cuts (callerDomain s c) (eqb (c .second) 1) (reading (c .first))))
     unfolding hypercall revoke
     revoke-checked = by-rule s c REVOKE revoke refl sound e n
 
-    revoke-refused : (refusal : Reply) → Refusal refusal → (replyOf (rules s c) ≡ refusal) ↔ Cause revokeChecks refusal
-    revoke-refused = refused-exactly s c revokeChecks _ 0 refl revoke-checked
+    revoke-refused : (replyOf (rules s c) ≡ BadPar) ↔
+        ((1 < c .second) ⊎ ((c .second ≤ 1) × ((reading (c .first) ≡ Malformed) ⊎ ((reading (c .first) ≡ Malformed → ⊥) × MaskOutside (c .first)))))
+    revoke-refused =
+        let exactly = refused-exactly s c revokeChecks _ 0 refl revoke-checked BadPar refl in
+        (λ e. in-fields .0 (exactly .0 e), λ x. exactly .1 (in-fields .1 x))
 
-    revoke-passed : ((effects : List Effect) × (rules s c ≡ grant 0 effects)) ↔ Passed revokeChecks
+    revoke-passed : ((effects : List Effect) × (rules s c ≡ grant 0 effects)) ↔
+        ((c .second ≤ 1) × ((reading (c .first) ≡ Malformed → ⊥) × (MaskOutside (c .first) → ⊥)))
     revoke-passed = (
-      λ (effects, g). granted-exactly s c revokeChecks _ 0 refl revoke-checked .0 (ap replyOf g),
-      λ f. (_, revoke-checked ∙ last-stands revokeChecks _ f),
+      λ (effects, g).
+          let (small, (formed, inside)) = granted-exactly s c revokeChecks _ 0 refl revoke-checked .0 (ap replyOf g) in
+          (small, (formed, λ outside. inside (fields-outside (c .first) formed outside))),
+      λ (small, (formed, inside)).
+          (_, revoke-checked ∙ last-stands revokeChecks _ (small, (formed, λ outside. inside (outside-fields (c .first) formed outside)))),
     )
 
     revoke-status : member (statusOf (replyOf (rules s c))) (0 ∷ 5 ∷ []) ≡ true
@@ -186,7 +209,7 @@ lookup-refused-exactly =
 pub revoke-refused-exactly : RevokeRefusedExactly
 revoke-refused-exactly =
     record {
-      revoke-bad-par = λ s c sound e n. revoke-refused s c sound e n BadPar refl;
+      revoke-bad-par = revoke-refused;
       revoke-granted = revoke-passed;
       revoke-no-other = revoke-status;
     }

@@ -15,7 +15,7 @@ use Rattle.interface.specs.Boot.{hypervisor}
 use Rattle.interface.specs.Damage.{isEc}
 use Rattle.interface.specs.RangeDescriptors.{reading, malformed}
 use Rattle.interface.specs.Verdicts.{Call, Verdict, refuse, grant, require_else_then_, effectsOf, callerDomain}
-use Rattle.interface.specs.Revoke.{cuts, revoke}
+use Rattle.interface.specs.Revoke.{maskIsOutside, cuts, revoke}
 use Rattle.interface.proofs.Basics.BoolLaws.{and-left}
 use Rattle.interface.proofs.Sound.Soundness.{Sound}
 use Rattle.interface.proofs.Tables.Steps.{FitInTurn}
@@ -42,8 +42,10 @@ unfolding revoke
 revoke-so P s c refused f =
     let read = reading (c .first) in
     let granted = grant 0 (cuts (callerDomain s c) (eqb (c .second) 1) read) in
-    require-so P (leb (c .second) 1) BadPar (require not (malformed read) else BadPar then granted) (refused BadPar)
-    (λ _. require-so P (not (malformed read)) BadPar granted (refused BadPar) (λ _. f))
+    let masked = require not (maskIsOutside read) else BadPar then granted in
+    require-so P (leb (c .second) 1) BadPar (require not (malformed read) else BadPar then masked) (refused BadPar)
+    (λ _. require-so P (not (malformed read)) BadPar masked (refused BadPar)
+    (λ _. require-so P (not (maskIsOutside read)) BadPar granted (refused BadPar) (λ _. f)))
 
 -- the caller's domain has a PD, so it is not domain 0
 pub revoke-fits : (s : State) (c : Call) → Sound s → isEc s (c .caller) ≡ true → FitInTurn (effectsOf (revoke s c)) s

@@ -1,6 +1,6 @@
 -- One selector is a range of order 0.
 use borrow.Author.Needs.{needs}
-use Rattle.requests.proofs.FullRangeLaws.{aligned-single}
+use Rattle.requests.proofs.MaskedRangeLaws.{aligned-single}
 use Rattle.requests.proofs.single.Statement.{statement}
 use Rattle.requests.proofs.single.Tie as tie
 
