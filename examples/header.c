@@ -143,8 +143,8 @@ static void refusals(void) {
     const uint32_t wide = rudozhev_range(RUDOZHEV_OBJECT, 0, 7, RUDOZHEV_FULL_MASK);
     HOLDS(rudozhev_status(rudozhev_lookup(&tables, CALLER, wide)) == RUDOZHEV_BAD_PAR);
     HOLDS(rudozhev_status(rudozhev_revoke(&tables, CALLER, wide, false)) == RUDOZHEV_BAD_PAR);
-    const uint32_t unmasked = rudozhev_range(RUDOZHEV_OBJECT, EC, 0, 0);
-    HOLDS(rudozhev_status(rudozhev_revoke(&tables, CALLER, unmasked, true)) == RUDOZHEV_BAD_PAR);
+    const uint32_t mask_0 = rudozhev_range(RUDOZHEV_OBJECT, EC, 0, 0);
+    HOLDS(rudozhev_status(rudozhev_revoke(&tables, CALLER, mask_0, true)) == RUDOZHEV_BAD_PAR);
     const uint32_t past_io = rudozhev_range(RUDOZHEV_IO, 8, 0, 30);
     HOLDS(rudozhev_status(rudozhev_revoke(&tables, CALLER, past_io, true)) == RUDOZHEV_BAD_PAR);
     const uint32_t past_memory = rudozhev_range(RUDOZHEV_MEMORY, 8, 0, 24);

@@ -83,7 +83,7 @@ enum {
     RUDOZHEV_COM_TIM = 1,     /* the callee is the caller, or a semaphore is at 0 */
     RUDOZHEV_BAD_HYP = 3,     /* the hypercall number is not built */
     RUDOZHEV_BAD_CAP = 4,     /* a capability is missing, or a new place is taken */
-    RUDOZHEV_BAD_PAR = 5,     /* a parameter is out of its bounds */
+    RUDOZHEV_BAD_PAR = 5,     /* a parameter is out of its bounds, or a REVOKE's mask has no permission of its space */
     RUDOZHEV_BAD_CPU = 7,     /* a CPU does not exist, or is not the caller's */
     RUDOZHEV_NO_ROOM = 16,    /* no free record, or no further domain */
     RUDOZHEV_DAMAGED = 17,    /* the tables break a rule of soundness */
@@ -310,7 +310,7 @@ RUDOZHEV_ANSWERS static inline uint64_t rudozhev_create_sm(struct rudozhev_table
 }
 
 /* Takes the mask's permissions from all that was lent from a range, and from the range
- * itself if asked. A mask without a permission of the range's space is refused: in memory
+ * itself if asked. A mask without a permission of the range's space gives BAD_PAR: in memory
  * one without a bit of 7, in I/O one without bit 0, for objects mask 0. */
 RUDOZHEV_ANSWERS static inline uint64_t rudozhev_revoke(struct rudozhev_tables *tables, uint32_t caller, uint32_t range,
                                                         bool with_self) {

@@ -764,7 +764,7 @@ impl Generator {
 
     /// A mask for a REVOKE: the given one, with a permission of its space added where it has
     /// none. One mask in eight has none, and is refused.
-    fn revoked(&mut self, space: Space, mask: u32) -> u32 {
+    fn revoke_mask(&mut self, space: Space, mask: u32) -> u32 {
         let greatest = space.greatest_permissions();
         match self.random.below(16) {
             0 => 0,
@@ -784,7 +784,7 @@ impl Generator {
         let selector = self.random.pick(&lent).unwrap_or(anywhere);
         let order = 1 + self.random.below(3);
         let mask = 1 << self.random.below(3);
-        let mask = self.revoked(space, mask);
+        let mask = self.revoke_mask(space, mask);
         let descriptor = self.around(space, selector, order, mask);
         let self_word = u32::from(self.random.percent(20));
         self.make(Hypercall::Revoke, ROOT_EC, &[descriptor, self_word])
@@ -803,7 +803,7 @@ impl Generator {
             1..=8 => 1 << self.random.below(5),
             _ => self.random.below(FULL_MASK + 1),
         };
-        let mask = self.revoked(space, mask);
+        let mask = self.revoke_mask(space, mask);
         // The root's own objects mostly stay, so that the journal can go on.
         let keep = domain == 1 && space == Space::Object && self.random.percent(90);
         let self_word = match self.random.below(20) {

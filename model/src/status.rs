@@ -11,7 +11,7 @@ pub enum Status {
     BadHyp = 3,
     /// A capability is missing, or a new place is taken.
     BadCap = 4,
-    /// A parameter is out of its bounds.
+    /// A parameter is out of its bounds, or a REVOKE's mask has no permission of its space.
     BadPar = 5,
     /// A CPU does not exist, or is not the caller's.
     BadCpu = 7,

@@ -68,7 +68,7 @@ pub enum Hypercall {
     /// Removes the mask's permissions from all that was lent from a range.
     Revoke {
         /// The range, with the permissions to remove as its mask. A mask without a permission
-        /// of the range's space is refused: in memory one without a bit of 7, in I/O one
+        /// of the range's space gives BAD_PAR: in memory one without a bit of 7, in I/O one
         /// without bit 0, for objects mask 0.
         range: Descriptor,
         /// Whether the range loses them too.

@@ -12,7 +12,7 @@ pub enum Refusal {
     BadHyp,
     /// A capability is missing, or a new place is taken.
     BadCap,
-    /// A parameter is out of its bounds.
+    /// A parameter is out of its bounds, or a REVOKE's mask has no permission of its space.
     BadPar,
     /// A CPU does not exist, or is not the caller's.
     BadCpu,
@@ -75,7 +75,9 @@ impl fmt::Display for Refusal {
             Refusal::BadCap => {
                 out.write_str("BAD_CAP: a capability is missing, or a place is taken")
             }
-            Refusal::BadPar => out.write_str("BAD_PAR: a parameter is out of its bounds"),
+            Refusal::BadPar => out.write_str(
+                "BAD_PAR: a parameter is out of its bounds, or a mask takes no permission",
+            ),
             Refusal::BadCpu => out.write_str("BAD_CPU: a CPU does not exist, or is another"),
             Refusal::NoRoom => out.write_str("NO_ROOM: no record or domain is left"),
             Refusal::Damaged => out.write_str("DAMAGED: the tables are not sound"),

@@ -13,39 +13,30 @@ use Rattle.interface.specs.Effects.{ancestors, among}
 use Rattle.interface.specs.Message.{firstIn, nearest}
 use Rattle.interface.proofs.Basics.BoolLaws.{cases, and-left, and-right, both, same-test}
 use Rattle.interface.proofs.Sound.Soundness.{Sound}
-use Rattle.interface.proofs.Sound.PlaceFacts.{null-cap, ChildOf, Lineage, no-parent, child, live-facts}
+use Rattle.interface.proofs.Sound.PlaceFacts.{null-cap, Lineage, no-parent, child, live-facts, parent-child}
 use Rattle.descent.specs.Walks.{Linked, firstAmong}
 
 module _ (s : State) (k : Sound s) (p : ℕ) (l : p < places) where
-  -- a place has a parent one less deep, or none and depth 0
+  -- a place without a parent has depth 0
   depth-none : Lineage s p → s .caps p .parent ≡ 0 → s .caps p .depth ≡ 0
   depth-none (no-parent e t) none =
       eqb-true (s .caps p .depth) 0 (and-left (eqb (s .caps p .depth) 0) (eqb (spaceOf p) object || eqb (domainOf p) hypervisor) t)
   depth-none (child q c) none = absurd (omega (arith, c .linked))
 
-  parent-facts : (q : ℕ) → Lineage s p → s .caps p .parent ≡ suc q → ChildOf s p q
-  parent-facts q (no-parent e t) linked = absurd (omega arith)
-  parent-facts q (child r c) linked = let same : r ≡ q = omega (arith, c .linked) in rw same at c
-
-  -- a null place has none
+  -- and so has a null place
   root : s .caps p .parent ≡ 0 → s .caps p .depth ≡ 0
   root none =
       cases (live (s .caps p)) (λ (t : live (s .caps p) ≡ true). depth-none (live-facts s p (k .lives p l) t .lineage) none)
       (λ (f : live (s .caps p) ≡ false). ap (λ (cap : Cap). cap .depth) (null-cap s p (k .nulls p l) f))
-
-  parent : (q : ℕ) → s .caps p .parent ≡ suc q → ChildOf s p q
-  parent q linked =
-      cases (live (s .caps p)) (λ (t : live (s .caps p) ≡ true). parent-facts q (live-facts s p (k .lives p l) t .lineage) linked)
-      (λ (f : live (s .caps p) ≡ false). absurd (omega (arith, ap (λ (cap : Cap). cap .parent) (null-cap s p (k .nulls p l) f))))
 
 -- the links of a sound state can be followed
 pub sound-linked : (s : State) → Sound s → Linked (s .caps)
 sound-linked s k =
     record {
       rooted = λ p l e. root s k p l e;
-      parent-place = λ p q l e. parent s k p l q e .is-place;
-      parent-space = λ p q l e. parent s k p l q e .same-space;
-      parent-depth = λ p q l e. omega (arith, parent s k p l q e .deeper);
+      parent-place = λ p q l e. parent-child s k p q l e .is-place;
+      parent-space = λ p q l e. parent-child s k p q l e .same-space;
+      parent-depth = λ p q l e. omega (arith, parent-child s k p q l e .deeper);
     }
 
 -- the places of a domain are those from its first on, as many as a domain has

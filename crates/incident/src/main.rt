@@ -1,7 +1,7 @@
 // Tries the incident that this kernel is to prevent. The ports of a spectrometer's shutter were lent to the operating domain, lent on through the service domain to a test
-// domain, and forgotten there. A lookup answered with the nearest range where it should have found nothing, the revoke that followed it missed the test domain, and the shutter
-// opened beside a trainee. Here the census names every place that has the ports, a lookup beside them finds nothing, one REVOKE empties all those places and spares what else
-// was lent, and the test domain has no port of the shutter's left to lend on.
+// domain, and forgotten there. A lookup answered with the nearest range where it should have found nothing, the revoke that followed it missed the test domain, and the
+// shutter opened beside a trainee. Here the census names every place that has the ports, a lookup beside them finds nothing, a REVOKE that could take nothing is refused, one
+// REVOKE empties all those places and spares what else was lent, and the test domain has no port of the shutter's left to lend on.
 mod spectrometer;
 mod steps;
 mod telling;
@@ -64,7 +64,7 @@ fn mistake(machine: Machine) -> Machine {
         .name_shutter_heirs(ROOT)
 }
 
-// A revoke with mask 0 takes nothing, and says so. The right way is a lookup of the shutter's ports, and a revoke of their range.
+// A revoke with mask 0 would take nothing, and is refused. The right way is a lookup of the shutter's ports, and a revoke of their range.
 fn recovery(machine: Machine) -> Machine {
     machine
         .chapter(b"\nTHE REVOKE OF THE PORTS\n")

@@ -84,7 +84,7 @@ pub(crate) fn lamp_port(domain: u32) -> u32
 }
 
 // The descriptor of the shutter's ports, where the root has them, with mask 0.
-pub(crate) fn unmasked_ports() -> u32 {
+pub(crate) fn ports_with_mask_0() -> u32 {
     requests::masked_range(sizes::IO, ports(ROOT), SHUTTER_ORDER, 0)
 }
 

@@ -14,8 +14,8 @@ use crate::spectrometer::ec;
 use crate::spectrometer::lamp_port;
 use crate::spectrometer::portal_to;
 use crate::spectrometer::ports;
+use crate::spectrometer::ports_with_mask_0;
 use crate::spectrometer::range_of;
-use crate::spectrometer::unmasked_ports;
 use crate::telling;
 use crate::telling::say;
 use crate::telling::say_act;
@@ -29,7 +29,7 @@ use words::sizes;
 // A script runs once on each night of a year.
 const NIGHTS: u32 = 365;
 
-// How many of these nights on end a REVOKE of a range is refused.
+// On how many of these nights a REVOKE of a range is refused, up to the first on which it is not.
 fn refused_nights(range: u32, places: &mut [u32], objects: &mut [u32]) -> u32 {
     let mut night: u32 = 0;
     while night < NIGHTS {
@@ -237,16 +237,16 @@ impl Machine {
         self.revoke(self.2)
     }
 
-    // A script of the root's revokes the shutter's ports with mask 0, night after night, whatever it is answered.
+    // A script of the root's revokes the shutter's ports with mask 0, night after night.
     pub(crate) fn revoke_for_a_year(self) -> Machine {
         let mut places = self.0;
         let mut objects = self.1;
-        let range = unmasked_ports();
+        let range = ports_with_mask_0();
         say(b"A script of the root's revokes the shutter's ports with mask 0: ");
         say_done(requests::revoke(range, &mut places, &mut objects));
         say(b"It does so each night for a year: ");
         telling::say_refused(refused_nights(range, &mut places, &mut objects), NIGHTS);
-        telling::say_changed(has_words(&places, &self.0) & has_words(&objects, &self.1));
+        telling::say_kept(has_words(&places, &self.0) & has_words(&objects, &self.1));
         Machine(places, objects, self.2)
     }
 

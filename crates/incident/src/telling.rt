@@ -103,8 +103,8 @@ pub(crate) fn say_refused(count: u32, times: u32) {
 }
 
 // Ends a line with whether the tables are as they were.
-pub(crate) fn say_changed(same: bool) {
-    if same {
+pub(crate) fn say_kept(kept: bool) {
+    if kept {
         say(b", and no word of the tables changed\n");
         return;
     }

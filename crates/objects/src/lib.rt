@@ -66,7 +66,7 @@ pub fn greatest_of(kind: u32) -> u32
     }
 }
 
-// The greatest permissions in a space, of an object of a kind.
+// The greatest permissions for what a space holds: an object has those of its kind.
 pub fn greatest_permissions(space: u32, kind: u32) -> u32
     ensures { λ r. ⌜ r ≡ greatest space kind ⌝ }
 {

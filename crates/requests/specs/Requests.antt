@@ -18,7 +18,7 @@ Asked places objects places-after objects-after reply call =
 abbrev pub maskedRange : ℕ → ℕ → ℕ → ℕ → Range
 maskedRange space base order mask = record { space = space; base = base; order = order; mask = mask }
 
--- one whose mask has all five bits, so that it takes no permission away
+-- one whose mask has all five bits, so that lending by it holds no permission back
 abbrev pub fullRange : ℕ → ℕ → ℕ → Range
 fullRange space base order = maskedRange space base order wholeMask
 

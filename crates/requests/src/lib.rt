@@ -14,7 +14,6 @@ use interface::numbers;
 use layout::FoundSelector;
 use layout::Selector;
 use reply::Reply;
-use words::sizes;
 
 // The selector where the root has its own PD.
 const OWN_PD: u32 = boot::EXC;

@@ -15,7 +15,7 @@ use reply::Reply;
 use words::permissions;
 use words::ranges;
 
-// Whether a range's mask lies outside the greatest permissions of its space, so that nothing can be revoked by it.
+// Whether a range's mask lies outside the greatest permissions of its space, for objects a PD's, so that nothing can be revoked by it.
 fn mask_is_outside(range: Range) -> bool
     ensures { λ r. ⌜ r ≡ maskIsOutside (Good range) ⌝ }
 {

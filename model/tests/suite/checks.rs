@@ -453,7 +453,7 @@ fn revoke_checks_a_mask_after_the_descriptor() {
 }
 
 #[test]
-fn refused_revocations_leave_all_to_the_census_and_the_last_one() {
+fn the_census_is_the_same_after_refused_revocations() {
     let mut world = World::lenders();
     for (space, selector) in LOANS {
         let (origin, heir) = (place(1, space, selector), place(2, space, selector));

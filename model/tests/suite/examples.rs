@@ -171,7 +171,7 @@ fn a_line_revoked_with_its_start() {
 }
 
 #[test]
-fn masks_that_can_take_something() {
+fn masks_of_revocations() {
     // What each leaves of a place of the child, where it takes something.
     let page = [8, 3, place(1, MEMORY, 8) + 1, 2];
     let examples = [

@@ -446,7 +446,9 @@ fn each_generated_journal_holds_what_its_name_says() {
                 held.beside_itself,
                 held.revoked_inside_the_range,
             ],
-            "unrelated-words" => vec![],
+            "unrelated-words" => [Status::BadPar, Status::BadCaller]
+                .map(|status| u32::from(held.statuses.iter().any(|held| held.1 == status.number())))
+                .to_vec(),
             _ => panic!("{name} has no meaning here"),
         };
         assert!(counts.iter().all(|&count| count > 0), "{name}: {counts:?}");

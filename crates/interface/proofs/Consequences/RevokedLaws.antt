@@ -1,9 +1,9 @@
 -- Revocation is exact: a REVOKE that succeeds takes one cut of its range, or no step for a null descriptor. And the cut of a range whose mask has no permission of its space would
 -- change nothing.
-use Prim.Native.Nat.{ℕ, zero, suc, _+_, _^_, _<_}
+use Prim.Native.Nat.{ℕ, _+_, _^_, _<_}
 use mathlib.Core.Path.{_≡_, refl, sym, ap, _∙_}
 use mathlib.Core.Logic.{⊎-elim}
-use mathlib.Core.Bool.{Bool, true, false, not, _&&_, _||_, false≢true}
+use mathlib.Core.Bool.{Bool, true, false, not, _&&_, false≢true}
 use native.Mathlib.Omega.{arith}
 use lib.Dec.{eqb, leb, ltb}
 use borrow.Author.Tests.{ltb-true, ltb-false, leb-true, eqb-true, ne-eqb}
@@ -16,7 +16,6 @@ use Rattle.descriptor.specs.declared.Reading.the-variants.{Null, Malformed, Goo
 use Rattle.descriptor.specs.Descriptors.{Proper}
 use Rattle.descriptor.proofs.DescriptorLaws.{good-proper, proper-space}
 use Rattle.reply.specs.declared.Reply.the-variants.{Success, BadPar}
-use Rattle.interface.specs.Basics.{any}
 use Rattle.interface.specs.Places.{Cap, State, Tables, live, nothing, shown, greatestIn}
 use Rattle.interface.specs.Damage.{sound}
 use Rattle.interface.specs.RangeDescriptors.{reading, malformed}
@@ -27,10 +26,11 @@ use Rattle.interface.specs.Rules.{hypercall, rules, after}
 use Rattle.interface.specs.Consequences.{RevokesExactly, NothingLost}
 use Rattle.interface.proofs.Basics.BoolLaws.{cases, and-left, and-right, either}
 use Rattle.interface.proofs.Sound.Soundness.{Sound, sound-facts}
-use Rattle.interface.proofs.Sound.PlaceFacts.{null-cap, ChildOf, Lineage, no-parent, child, live-facts}
+use Rattle.interface.proofs.Sound.PlaceFacts.{null-cap, parent-child}
 use Rattle.interface.proofs.Sound.GreatestLaws.{permissions-within}
-use Rattle.interface.proofs.Sound.CutSound.{ancestors-none, below-child}
+use Rattle.interface.proofs.Sound.CutSound.{below-space, reached, cut-kept, cut-stripped}
 use Rattle.interface.proofs.Sound.MessageFits.{ReadProper}
+use Rattle.interface.proofs.History.CutLaws.{cut-nothing}
 use Rattle.interface.proofs.Refusals.MaskRefusals.{fields-outside}
 use Rattle.interface.proofs.Tables.TableLaws.{cap-at-end, places-long, sound-sized, sound-shown, state-same}
 use Rattle.interface.proofs.Tables.VerdictLaws.{succeeds, rule-succeeds, after-verdict}
@@ -67,27 +67,7 @@ revokes-exactly s c answer n h =
       (λ range e place. rw (left, e)),
     )
 
--- the live places below places of a space are of that space
-module _ (s : State) (k : Sound s) (first size space : ℕ) (there : (q : ℕ) → among first size q ≡ true → spaceOf q ≡ space) where
-  one-step : (p : ℕ) → Lineage s p → below (s .caps) first size p ≡ true → ((q : ℕ) → ChildOf s p q → below (s .caps) first size q ≡ true → spaceOf q ≡ space) →
-      spaceOf p ≡ space
-  unfolding below any
-  one-step p (no-parent e _) b next = absurd (false≢true (rw (ancestors-none (s .caps) p e) at b))
-  one-step p (child q c) b next =
-      sym (c .same-space) ∙
-      ⊎-elim (λ (a : among first size q ≡ true). there q a) (λ (d : below (s .caps) first size q ≡ true). next q c d)
-      (either (among first size q) (below (s .caps) first size q) (sym (below-child (s .caps) first size p q (c .linked) (c .deeper)) ∙ b))
-
-  below-space : (depth p : ℕ) → s .caps p .depth ≡ depth → p < places → live (s .caps p) ≡ true → below (s .caps) first size p ≡ true → spaceOf p ≡ space
-  below-space zero p d l t b = one-step p (live-facts s p (k .lives p l) t .lineage) b (λ q c _. absurd (omega (arith, c .deeper)))
-  below-space (suc depth) p d l t b =
-      one-step p (live-facts s p (k .lives p l) t .lineage) b (λ q c e. below-space depth q (omega (arith, c .deeper)) (c .is-place) (c .alive) e)
-
--- stripping takes nothing from a null place, and nothing from a live one whose permissions are among some of which the mask has none
-stripped-nothing : (mask : ℕ) → stripped mask nothing ≡ nothing
-unfolding stripped
-stripped-nothing mask = refl
-
+-- stripping takes nothing from a live place whose permissions are among some of which the mask has none
 stripped-same : (mask most : ℕ) (cap : Cap) → delegated most mask ≡ 0 → within (cap .permissions) most ≡ true → live cap ≡ true → stripped mask cap ≡ cap
 unfolding stripped
 stripped-same mask most cap none inside alive =
@@ -114,32 +94,39 @@ module _ (tables : Tables) (good : sound tables ≡ true) (domain : ℕ) (self :
         proper-space domain range proper p (leb-true first p (and-left (leb first p) (ltb p (first + size)) h))
         (ltb-true p (first + size) (and-right (leb first p) (ltb p (first + size)) h))
 
-    -- a live place that is cut is of the range's space
-    reached-space : (p : ℕ) → p < places → live (s .caps p) ≡ true → (below (s .caps) first size p || (self && among first size p)) ≡ true → spaceOf p ≡ range .space
-    reached-space p l t h =
+    abbrev cutAt : ℕ → Bool
+    cutAt = reached s (range .mask) first size self
+
+    -- a place that is cut is of the range's space
+    cut-space : (p : ℕ) → p < places → cutAt p ≡ true → spaceOf p ≡ range .space
+    cut-space p l h =
         ⊎-elim
-        (λ (b : below (s .caps) first size p ≡ true). below-space s k first size (range .space) range-space (s .caps p .depth) p refl l t b)
+        (λ (b : below (s .caps) first size p ≡ true).
+        below-space (s .caps) first size (range .space) range-space
+        (λ r q m e. let c = parent-child s k r q m e in (c .is-place, c .same-space, c .deeper)) p l b)
         (λ (a : (self && among first size p) ≡ true). range-space p (and-right self (among first size p) a))
         (either (below (s .caps) first size p) (self && among first size p) h)
 
-    stripped-stays : (p : ℕ) → (below (s .caps) first size p || (self && among first size p)) ≡ true → stripped (range .mask) (s .caps p) ≡ s .caps p
-    stripped-stays p h =
+    -- so it keeps all its permissions, where it is live; and a null one stays null
+    live-stays : (p : ℕ) → p < places → live (s .caps p) ≡ true → cutCaps (range .mask) first size self (s .caps) p ≡ s .caps p
+    live-stays p l t =
+        cases (cutAt p)
+        (λ (h : cutAt p ≡ true).
+        cut-stripped s (range .mask) first size self p h ∙
+        stripped-same (range .mask) (greatestIn (spaceOf p)) (s .caps p) (rw (cut-space p l h) none) (permissions-within s p k l t) t)
+        (λ (h : cutAt p ≡ false). cut-kept s (range .mask) first size self p h)
+
+    null-stays : (p : ℕ) → s .caps p ≡ nothing → cutCaps (range .mask) first size self (s .caps) p ≡ s .caps p
+    null-stays p e = cut-nothing (range .mask) first size self (s .caps) p e ∙ sym e
+
+    cap-stays : (p : ℕ) → cutCaps (range .mask) first size self (s .caps) p ≡ s .caps p
+    cap-stays p =
         cases (ltb p places)
         (λ (i : ltb p places ≡ true).
         let l : p < places = ltb-true p places i in
-        cases (live (s .caps p))
-        (λ (t : live (s .caps p) ≡ true).
-        stripped-same (range .mask) (greatestIn (spaceOf p)) (s .caps p) (rw (reached-space p l t h) none) (permissions-within s p k l t) t)
-        (λ (f : live (s .caps p) ≡ false). rw (null-cap s p (k .nulls p l) f) (stripped-nothing (range .mask))))
-        (λ (o : ltb p places ≡ false).
-        rw (cap-at-end (tables .places) (places-long tables (sound-sized tables good)) p (ltb-false p places o)) (stripped-nothing (range .mask)))
-
-    cap-stays : (p : ℕ) → cutCaps (range .mask) first size self (s .caps) p ≡ s .caps p
-    unfolding cutCaps
-    cap-stays p =
-        cases (below (s .caps) first size p || (self && among first size p))
-        (λ (h : (below (s .caps) first size p || (self && among first size p)) ≡ true). rw h (stripped-stays p h))
-        (λ (h : (below (s .caps) first size p || (self && among first size p)) ≡ false). rw h)
+        cases (live (s .caps p)) (λ (t : live (s .caps p) ≡ true). live-stays p l t)
+        (λ (f : live (s .caps p) ≡ false). null-stays p (null-cap s p (k .nulls p l) f)))
+        (λ (o : ltb p places ≡ false). null-stays p (cap-at-end (tables .places) (places-long tables (sound-sized tables good)) p (ltb-false p places o)))
 
   lost-none : (read : Reading) → ReadProper read → ((read ≡ Malformed → ⊥) → maskIsOutside read ≡ true) → run (cuts domain self read) s ≡ s
   unfolding run act

@@ -62,6 +62,10 @@ pub decides-contrary : {contrary : Type 0} (test : Bool) → (test ≡ false →
 decides-contrary test f g =
     record { holds = λ h x. not-both test h (g x); fails = f; apart = λ n x. n x }
 
+-- a test that has to fail decides whether it holds
+pub decides-not : (test : Bool) → Decides (not test) (test ≡ true → ⊥) (test ≡ true)
+decides-not test = decides-contrary (not test) (not-false test) (λ h. rw h)
+
 -- two tests, each of which fails exactly where a contrary holds, fail together exactly where one of the contraries holds
 pub decides-both : {one other : Type 0} (a b : Bool) → Decides a (one → ⊥) one → Decides b (other → ⊥) other → Decides (a && b) (one ⊎ other → ⊥) (one ⊎ other)
 decides-both {one} {other} true b d e =

@@ -31,7 +31,7 @@ use Rattle.interface.proofs.Basics.BoolLaws.{cases, either-way}
 use Rattle.interface.proofs.Basics.PutLaws.{put-same, put-other}
 use Rattle.interface.proofs.Sound.Soundness.{sound-facts}
 use Rattle.interface.proofs.Tables.VerdictLaws.{after-verdict}
-use Rattle.interface.proofs.Refusals.ChecksInTurn.{Decides, decides-at-most, decides-below, decides-some, decides-inside, decides-contrary, Refusal, success-no-refusal, Check, checked, inTurn, Cause, Passed, neither-reply, caused-exactly, each-passed, each-passes, status-among, verdictInTurn, last-stands}
+use Rattle.interface.proofs.Refusals.ChecksInTurn.{Decides, decides-at-most, decides-below, decides-some, decides-inside, decides-contrary, decides-not, Refusal, success-no-refusal, Check, checked, inTurn, Cause, Passed, neither-reply, caused-exactly, each-passed, each-passes, status-among, verdictInTurn, last-stands}
 use Rattle.interface.proofs.Refusals.MaskRefusals.{outside-fields, fields-outside}
 use Rattle.interface.proofs.Refusals.RefusalLaws.{by-rule, refused-exactly, granted-exactly, granted-somehow, no-other, decides-holding, passed-grants}
 
@@ -133,10 +133,6 @@ read-malformed (Good range) h = absurd (false≢true h)
 decides-malformed : (read : Reading) → Decides (not (malformed read)) (read ≡ Malformed → ⊥) (read ≡ Malformed)
 decides-malformed read = decides-contrary (not (malformed read)) (λ h. read-malformed read (not-false (malformed read) h)) (λ h. rw h)
 
--- a check that a test fails
-decides-not : (test : Bool) → Decides (not test) (test ≡ true → ⊥) (test ≡ true)
-decides-not test = decides-contrary (not test) (not-false test) (λ h. rw h)
-
 module _ (s : State) (c : Call) (sound : soundState s ≡ true) (e : isEc s (c .caller) ≡ true) where
   abbrev lookupChecks : List Check
   lookupChecks = checked (decides-malformed (reading (c .first))) BadPar refl ∷ []
@@ -166,8 +162,10 @@ module _ (s : State) (c : Call) (sound : soundState s ≡ true) (e : isEc s (c .
       checked (decides-not (maskIsOutside (reading (c .first)))) BadPar refl ∷ []
 
   -- the cause of a refusal, with the check of the mask in the word's fields
-  in-fields : Cause revokeChecks BadPar ↔
-      ((1 < c .second) ⊎ ((c .second ≤ 1) × ((reading (c .first) ≡ Malformed) ⊎ ((reading (c .first) ≡ Malformed → ⊥) × MaskOutside (c .first)))))
+  abbrev RevokeCause : Type 0
+  RevokeCause = (1 < c .second) ⊎ ((c .second ≤ 1) × ((reading (c .first) ≡ Malformed) ⊎ ((reading (c .first) ≡ Malformed → ⊥) × MaskOutside (c .first))))
+
+  in-fields : Cause revokeChecks BadPar ↔ RevokeCause
   in-fields = (
     ⊎-map (λ l. l) (λ x. (x .0, ⊎-map (λ m. m) (λ y. (y .0, outside-fields (c .first) (y .0) (y .1))) (x .1))),
     ⊎-map (λ l. l) (λ x. (x .0, ⊎-map (λ m. m) (λ y. (y .0, fields-outside (c .first) (y .0) (y .1))) (x .1))),
@@ -178,8 +176,7 @@ module _ (s : State) (c : Call) (sound : soundState s ≡ true) (e : isEc s (c .
     unfolding hypercall revoke
     revoke-checked = by-rule s c REVOKE revoke refl sound e n
 
-    revoke-refused : (replyOf (rules s c) ≡ BadPar) ↔
-        ((1 < c .second) ⊎ ((c .second ≤ 1) × ((reading (c .first) ≡ Malformed) ⊎ ((reading (c .first) ≡ Malformed → ⊥) × MaskOutside (c .first)))))
+    revoke-refused : (replyOf (rules s c) ≡ BadPar) ↔ RevokeCause
     revoke-refused =
         let exactly = refused-exactly s c revokeChecks _ 0 refl revoke-checked BadPar refl in
         (λ e. in-fields .0 (exactly .0 e), λ x. exactly .1 (in-fields .1 x))

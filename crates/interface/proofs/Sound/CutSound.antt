@@ -1,13 +1,13 @@
 -- Revocation keeps a sound state sound: with a place its descendants are cut, so that what is left of a place stays within what is left of its parent.
-use Prim.Native.Nat.{ℕ, suc, _+_, _<_}
+use Prim.Native.Nat.{ℕ, zero, suc, _+_, _<_}
 use mathlib.Core.Path.{_≡_, refl, sym, _∙_}
 use mathlib.Core.Logic.{⊎-elim}
-use mathlib.Core.Bool.{Bool, true, false, _&&_, _||_, and-false}
+use mathlib.Core.Bool.{Bool, true, false, _&&_, _||_, and-false, false≢true}
 use mathlib.Core.List.{[], _∷_}
 use native.Mathlib.Omega.{arith}
 use lib.Dec.{eqb, ltb}
 use borrow.Author.Tests.{eqb-true, eqb-false}
-use Rattle.words.specs.Sizes.{domainOf, places}
+use Rattle.words.specs.Sizes.{domainOf, spaceOf, places}
 use Rattle.words.specs.Permissions.{revoked, within}
 use Rattle.words.proofs.BitLaws.{within-across, revoked-within, revoked-respects}
 use Rattle.interface.specs.Basics.{any}
@@ -38,6 +38,27 @@ pub ancestors-none : (caps : ℕ → Cap) (p : ℕ) → caps p .parent ≡ 0 →
 unfolding ancestors
 ancestors-none caps p e = rw e (chain-none (caps p .depth) (λ q. caps q .parent))
 
+-- along links that stay in their space, each one less deep, the places below places of a space are of that space
+module _ (caps : ℕ → Cap) (first size space : ℕ) (there : (q : ℕ) → among first size q ≡ true → spaceOf q ≡ space)
+    (up : (p q : ℕ) → p < places → caps p .parent ≡ suc q → (q < places) × (spaceOf q ≡ spaceOf p) × (caps q .depth + 1 ≡ caps p .depth)) where
+  one-step : (p : ℕ) → p < places → (link : ℕ) → caps p .parent ≡ link → below caps first size p ≡ true →
+      ((q : ℕ) → caps p .parent ≡ suc q → below caps first size q ≡ true → spaceOf q ≡ space) → spaceOf p ≡ space
+  unfolding below any
+  one-step p l zero e b above = absurd (false≢true (rw (ancestors-none caps p e) at b))
+  one-step p l (suc q) e b above =
+      let to = up p q l e in
+      sym (to .1) ∙
+      ⊎-elim (λ (a : among first size q ≡ true). there q a) (λ (c : below caps first size q ≡ true). above q e c)
+      (either (among first size q) (below caps first size q) (sym (below-child caps first size p q e (to .2)) ∙ b))
+
+  below-upto : (depth p : ℕ) → caps p .depth ≡ depth → p < places → below caps first size p ≡ true → spaceOf p ≡ space
+  below-upto zero p d l b = one-step p l (caps p .parent) refl b (λ q e c. absurd (omega (arith, up p q l e .2)))
+  below-upto (suc depth) p d l b =
+      one-step p l (caps p .parent) refl b (λ q e c. let to = up p q l e in below-upto depth q (omega (arith, to .2)) (to .0) c)
+
+  pub below-space : (p : ℕ) → p < places → below caps first size p ≡ true → spaceOf p ≡ space
+  below-space p l b = below-upto (caps p .depth) p refl l b
+
 -- what stripping leaves: the permissions that the mask has not, and all else of a place that stays live
 module _ (mask : ℕ) (cap : Cap) where
   abbrev left : ℕ
@@ -63,7 +84,7 @@ module _ (mask : ℕ) (cap : Cap) where
 
 module _ (s : State) (mask first size : ℕ) (self : Bool) where
   -- whether a place is cut, and the places after
-  abbrev reached : ℕ → Bool
+  abbrev pub reached : ℕ → Bool
   reached p = below (s .caps) first size p || (self && among first size p)
 
   abbrev after : ℕ → Cap

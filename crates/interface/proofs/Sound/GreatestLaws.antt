@@ -1,6 +1,6 @@
 -- Greatest permissions: those of a space are all bits of a width, no capability of the space has another, and what a mask has of them is its remainder.
 use Prim.Native.Nat.{ℕ, zero, suc, _-_, _%_, _^_, _≤_, _<_}
-use mathlib.Core.Path.{_≡_, refl, ap, _∙_}
+use mathlib.Core.Path.{_≡_, refl, _∙_}
 use mathlib.Core.Bool.{true, false}
 use native.Mathlib.Omega.{arith}
 use lib.Bits.{and-comm, and-mask}

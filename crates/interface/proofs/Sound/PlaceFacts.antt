@@ -1,6 +1,6 @@
 -- Places as facts: what the rules of damage say of null places, places of domain 0 and live places, and of the records they rest on; from tests to facts, and back.
 use Prim.Native.Nat.{ℕ, suc, _+_, _-_, _≤_, _<_}
-use mathlib.Core.Path.{_≡_}
+use mathlib.Core.Path.{_≡_, ap}
 use mathlib.Core.Bool.{true, false, _&&_, _||_}
 use native.Mathlib.Omega.{arith}
 use lib.Dec.{eqb, leb, ltb}
@@ -150,6 +150,16 @@ live-facts s p h l =
       bounded = leb-true (s .caps p .permissions) (greatest (spaceOf p) (kindOf s (s .caps p .resource))) (parts .2);
       lineage = lineage-facts s p (parts .3);
     }
+
+-- what a place names as its parent is its parent: a null place names none
+named-parent : (s : State) (p q : ℕ) → Lineage s p → s .caps p .parent ≡ suc q → ChildOf s p q
+named-parent s p q (no-parent e t) linked = absurd (omega arith)
+named-parent s p q (child r c) linked = let same : r ≡ q = omega (arith, c .linked) in rw same at c
+
+pub parent-child : (s : State) → Sound s → (p q : ℕ) → p < places → s .caps p .parent ≡ suc q → ChildOf s p q
+parent-child s k p q l linked =
+    cases (live (s .caps p)) (λ (t : live (s .caps p) ≡ true). named-parent s p q (live-facts s p (k .lives p l) t .lineage) linked)
+    (λ (f : live (s .caps p) ≡ false). absurd (omega (arith, ap (λ (cap : Cap). cap .parent) (null-cap s p (k .nulls p l) f))))
 
 pub live-test : (s : State) (p : ℕ) → (live (s .caps p) ≡ true → LivePlace s p) → live-place s p ≡ true
 unfolding live-place

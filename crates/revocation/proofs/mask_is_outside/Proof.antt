@@ -1,4 +1,4 @@
--- What the mask has of the greatest permissions of the range's space is 0, or is not.
+-- The test is the definition's: what the mask keeps of the greatest permissions of the range's space.
 use borrow.Author.Needs.{needs}
 use Rattle.revocation.proofs.RevokeLaws.{keeps-none}
 use Rattle.revocation.proofs.mask_is_outside.Statement.{statement}
