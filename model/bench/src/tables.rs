@@ -79,9 +79,9 @@ pub fn boot() -> Lent {
     Lent::new(Machine::boot())
 }
 
-/// The tables that a journal leaves.
-pub fn after(kind: Kind, records: usize) -> Lent {
-    let bytes = journal(kind, 1, records);
+/// The tables that a journal of a kind, a seed and so many records leaves.
+fn after(kind: Kind, seed: u64, records: usize) -> Lent {
+    let bytes = journal(kind, seed, records);
     let mut replay = Replay::new(&bytes);
     while let Step::Ran(..) = replay.step() {}
     Lent::new(replay.machine)
@@ -100,15 +100,16 @@ pub fn with_portal() -> Lent {
 }
 
 pub fn mixed() -> Lent {
-    after(Kind::Mixed, 2_000)
+    after(Kind::Mixed, 1, 2_000)
 }
 
 pub fn deep() -> Lent {
-    after(Kind::Deep, 2_000)
+    after(Kind::Deep, 1, 2_000)
 }
 
+/// With this seed a CALL of the root still finds null pages to fill.
 pub fn full() -> Lent {
-    after(Kind::Full, 4_000)
+    after(Kind::Full, 4, 4_000)
 }
 
 /// The full tables with nearly all places live: every domain holds all pages and
