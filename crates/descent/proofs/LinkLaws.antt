@@ -1,5 +1,5 @@
 -- Laws of parent links: those of a sound state can be followed, and the nearest ancestor in a domain is the first among the domain's places.
-use Prim.Native.Nat.{ℕ, suc, _+_, _*_, _<_}
+use Prim.Native.Nat.{ℕ, _+_, _*_, _<_}
 use mathlib.Core.Path.{_≡_, refl, ap}
 use mathlib.Core.Bool.{true, false, _||_}
 use mathlib.Core.List.{List, [], _∷_}

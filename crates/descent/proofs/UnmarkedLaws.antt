@@ -8,7 +8,7 @@ use borrow.Author.Tests.{leb-true, ltb-true, eqb-true}
 use Rattle.words.specs.Sizes.{spaceOf, places}
 use Rattle.interface.specs.Basics.{any}
 use Rattle.interface.specs.Places.{Cap}
-use Rattle.interface.specs.Effects.{among, below}
+use Rattle.interface.specs.Effects.{below}
 use Rattle.interface.proofs.Basics.BoolLaws.{cases, and-left, and-right}
 use Rattle.interface.proofs.Basics.BelowLaws.{all-below-at}
 use Rattle.interface.proofs.Sound.CutSound.{ancestors-none, below-space}

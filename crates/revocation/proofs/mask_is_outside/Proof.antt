@@ -18,7 +18,8 @@ keep-requires c κs = search needs
 
 returns : tie.Need-returns
 returns c =
-    keeps-none (c .before .before .before .before .args .range) (c .before .before .before .space .ensures) (c .before .before .greatest-permissions .ensures) (c .before .mask .ensures) (c .keep .ensures)
+    let spaced = c .before .before .before in
+    keeps-none (spaced .before .args .range) (spaced .space .ensures) (c .before .before .greatest-permissions .ensures) (c .before .mask .ensures) (c .keep .ensures)
 
 pub mask-is-outside-spec : {M : Type 1} → statement M
 mask-is-outside-spec =
