@@ -127,6 +127,8 @@ static void hypercalls(void) {
     uint64_t reply = rudozhev_call(&tables, CALLER, 38, &source, &target);
     HOLDS(same(reply, generally(RUDOZHEV_CALL, 38, 0, 0, 0, 0, 0), 0) && rudozhev_answer(reply) == 8);
     HOLDS(target.words[RUDOZHEV_HEADER_WORDS] == 1895);
+    const struct rudozhev_item item = rudozhev_received(&target, 0);
+    HOLDS(item.delegates && item.range == rudozhev_range(RUDOZHEV_IO, 8, 3, 1) && item.reason == RUDOZHEV_NOT_NULL);
 
     const uint32_t one = rudozhev_range(RUDOZHEV_IO, 9, 0, RUDOZHEV_FULL_MASK);
     reply = rudozhev_lookup(&tables, CALLER, one);
@@ -135,6 +137,52 @@ static void hypercalls(void) {
     HOLDS(same(rudozhev_revoke(&tables, CALLER, all, false), generally(RUDOZHEV_REVOKE, all, 0, 0, 0, 0, 0), 0));
     HOLDS(same(rudozhev_revoke(&tables, CALLER, one, true), generally(RUDOZHEV_REVOKE, one, 1, 0, 0, 0, 0), 0));
     HOLDS(rudozhev_answer(rudozhev_lookup(&tables, CALLER, one)) == RUDOZHEV_NULL);
+}
+
+/* Sends one item through portal 38; what is received, which fills no place. */
+static struct rudozhev_item sent(uint32_t range, uint32_t second, uint32_t window) {
+    source.words[0] = rudozhev_counts(0, 1);
+    source.words[RUDOZHEV_BLOCK_WORDS - 1] = range;
+    source.words[RUDOZHEV_BLOCK_WORDS - 2] = second;
+    target.words[RUDOZHEV_TRANSLATE_WINDOW] = (second & 1) != 0 ? RUDOZHEV_NULL : window;
+    target.words[RUDOZHEV_DELEGATE_WINDOW] = (second & 1) != 0 ? window : RUDOZHEV_NULL;
+    HOLDS(rudozhev_call(&tables, RUDOZHEV_ROOT_EC, 38, &source, &target) == 0);
+    return rudozhev_received(&target, 0);
+}
+
+/* Whether an item is received as null, for this reason. */
+static bool null_for(struct rudozhev_item item, bool delegates, enum rudozhev_reason reason) {
+    return item.delegates == delegates && item.range == RUDOZHEV_NULL && item.reason == reason;
+}
+
+static void reasons(void) {
+    const uint32_t pages = rudozhev_range(RUDOZHEV_MEMORY, 0, 3, 7), window = rudozhev_range(RUDOZHEV_MEMORY, 8, 3, 0);
+    const uint32_t objects = rudozhev_range(RUDOZHEV_OBJECT, 0, 6, 0), malformed = RUDOZHEV_MALFORMED;
+    const uint32_t delegate = rudozhev_delegation(0, true), translate = RUDOZHEV_TRANSLATION;
+    for (int kind = 0; kind < 2; kind++) {
+        const uint32_t second = kind == 1 ? delegate : translate;
+        HOLDS(null_for(sent(RUDOZHEV_NULL, second, window), kind == 1, RUDOZHEV_NULL_DESCRIPTOR));
+        HOLDS(null_for(sent(pages, second, RUDOZHEV_NULL), kind == 1, RUDOZHEV_NULL_DESCRIPTOR));
+        HOLDS(null_for(sent(malformed, second, RUDOZHEV_NULL), kind == 1, RUDOZHEV_NULL_DESCRIPTOR));
+        HOLDS(null_for(sent(RUDOZHEV_NULL, second, malformed), kind == 1, RUDOZHEV_NULL_DESCRIPTOR));
+        HOLDS(null_for(sent(malformed, second, window), kind == 1, RUDOZHEV_MALFORMED_DESCRIPTOR));
+        HOLDS(null_for(sent(pages, second, malformed), kind == 1, RUDOZHEV_MALFORMED_DESCRIPTOR));
+        HOLDS(null_for(sent(malformed, second, objects), kind == 1, RUDOZHEV_MALFORMED_DESCRIPTOR));
+        HOLDS(null_for(sent(pages, second, objects), kind == 1, RUDOZHEV_TYPES_DIFFER));
+    }
+    const uint32_t mask_0 = rudozhev_range(RUDOZHEV_MEMORY, 0, 3, 0);
+    HOLDS(null_for(sent(mask_0, delegate, window), true, RUDOZHEV_NOTHING_FILLED));
+    HOLDS(null_for(sent(pages, translate, window), false, RUDOZHEV_TRANSLATION_BROKE));
+    HOLDS(null_for(sent(pages, translate | 14, window), false, RUDOZHEV_TRANSLATION_BROKE));
+
+    HOLDS(null_for(rudozhev_received(&target, 1), false, RUDOZHEV_NO_ITEM));
+    HOLDS(null_for(rudozhev_received(&target, UINT32_MAX), false, RUDOZHEV_NO_ITEM));
+    target.words[0] = 31 << 16;
+    HOLDS(null_for(rudozhev_received(&target, 0), false, RUDOZHEV_NO_ITEM));
+    target.words[0] = 1 << 16 | 59;
+    HOLDS(null_for(rudozhev_received(&target, 0), false, RUDOZHEV_NO_ITEM));
+    target.words[0] = UINT32_MAX;
+    HOLDS(null_for(rudozhev_received(&target, 0), false, RUDOZHEV_NO_ITEM));
 }
 
 /* What does not fit is refused. */
@@ -169,6 +217,7 @@ int main(void) {
     other_words();
     HOLDS(boot(&tables) && boot(&general));
     hypercalls();
+    reasons();
     refusals();
     HOLDS(boot(&tables));
     depth();

@@ -34,6 +34,27 @@ static uint32_t lend(uint32_t portal, uint32_t range, uint32_t second, uint32_t 
     return done("CALL", rudozhev_call(&tables, RUDOZHEV_ROOT_EC, portal, &source, &target));
 }
 
+/* What the receiver is told of the item. */
+static const char *told(void) {
+    switch (rudozhev_received(&target, 0).reason) {
+    case RUDOZHEV_NOT_NULL:
+        return "received";
+    case RUDOZHEV_NULL_DESCRIPTOR:
+        return "null: there is no range or no window";
+    case RUDOZHEV_MALFORMED_DESCRIPTOR:
+        return "null: the range or the window is malformed";
+    case RUDOZHEV_TYPES_DIFFER:
+        return "null: range and window are of different spaces";
+    case RUDOZHEV_NOTHING_FILLED:
+        return "null: nothing was filled";
+    case RUDOZHEV_TRANSLATION_BROKE:
+        return "null: the range did not come from the receiver's window";
+    case RUDOZHEV_NO_ITEM:
+        return "not there";
+    }
+    return "null, for a reason that is not known";
+}
+
 /* Prints what LOOKUP finds at an I/O selector. */
 static void look(const char *who, uint32_t caller, uint32_t selector) {
     uint32_t found = done("LOOKUP", rudozhev_lookup(&tables, caller, rudozhev_range(RUDOZHEV_IO, selector, 0, 0)));
@@ -121,7 +142,12 @@ int main(void) {
         printf(" %" PRIu32, target.words[RUDOZHEV_HEADER_WORDS + word]);
     }
     printf("\n");
+    printf("its item is %s\n", told());
     look("domain 2", CHILD_EC_OBJECT, 8);
+    lent = lend(TO_CHILD, four, rudozhev_delegation(8, false), everything);
+    printf("the root lends %" PRIu32 " of them again, and the item is %s\n", lent, told());
+    lent = lend(TO_CHILD, four, rudozhev_delegation(8, false), RUDOZHEV_NULL);
+    printf("it lends %" PRIu32 " where domain 2 has no window, and the item is %s\n", lent, told());
     count("the hypervisor's port 32", port_of_hypervisor);
     count("the root's port 32", port_of_root);
 

@@ -161,7 +161,7 @@ RUDOZHEV_ANSWERS static inline uint32_t rudozhev_place(uint32_t domain, enum rud
     return domain * RUDOZHEV_DOMAIN_PLACES + (uint32_t)space * RUDOZHEV_SELECTORS + selector;
 }
 
-/* The second word of a typed item that translates, and of one that delegates: from
+/* The second word, as sent, of a typed item that translates, and of one that delegates: from
  * domain 0 where the root says so. A hotspot is read modulo the size of a range, 64 at
  * most, so the bits above its low 20, which find no room in the word, have no meaning. */
 #define RUDOZHEV_TRANSLATION UINT32_C(0)
@@ -259,6 +259,39 @@ struct rudozhev_tables {
 struct rudozhev_block {
     uint32_t words[RUDOZHEV_BLOCK_WORDS];
 };
+
+/* Why a received item is null. Where several reasons apply, it is the one of least number. */
+enum rudozhev_reason {
+    RUDOZHEV_NOT_NULL = 0,
+    RUDOZHEV_NULL_DESCRIPTOR = 1,      /* the item's descriptor is null, or its window */
+    RUDOZHEV_MALFORMED_DESCRIPTOR = 2, /* the item's descriptor is malformed, or its window */
+    RUDOZHEV_TYPES_DIFFER = 3,         /* they are of different spaces */
+    RUDOZHEV_NOTHING_FILLED = 4,       /* the delegation filled no place */
+    RUDOZHEV_TRANSLATION_BROKE = 5,    /* the range did not come from one range inside the window */
+    RUDOZHEV_NO_ITEM = 8               /* the message has no such item */
+};
+
+/* A typed item as it is received. */
+struct rudozhev_item {
+    bool delegates;              /* or else it translates */
+    uint32_t range;              /* the descriptor of what was filled or translated, or RUDOZHEV_NULL */
+    enum rudozhev_reason reason; /* why it is RUDOZHEV_NULL */
+};
+
+/* Reads an item of a received message; the first is item 0. There is none where the
+ * message has fewer, or where its counts do not fit a block. */
+RUDOZHEV_ANSWERS static inline struct rudozhev_item rudozhev_received(const struct rudozhev_block *block,
+                                                                      uint32_t item) {
+    struct rudozhev_item received = {false, RUDOZHEV_NULL, RUDOZHEV_NO_ITEM};
+    const uint32_t untyped = block->words[0] & 0xffff, typed = block->words[0] >> 16;
+    if (untyped + RUDOZHEV_ITEM_WORDS * typed <= RUDOZHEV_DATA_WORDS && item < typed) {
+        const uint32_t second = block->words[RUDOZHEV_BLOCK_WORDS - 2 - RUDOZHEV_ITEM_WORDS * item];
+        received.delegates = (second & 1) != 0;
+        received.range = block->words[RUDOZHEV_BLOCK_WORDS - 1 - RUDOZHEV_ITEM_WORDS * item];
+        received.reason = (enum rudozhev_reason)(second >> 1 & 7);
+    }
+    return received;
+}
 
 /* A hypercall other than CALL, by its number and words. */
 RUDOZHEV_ANSWERS static inline uint64_t rudozhev_without_blocks(uint32_t number, struct rudozhev_tables *tables,

@@ -31,10 +31,12 @@ pub enum Kind {
     /// Delegations inside one domain, from ranges that overlap their windows, and
     /// revocations of ranges that hold a place and its descendants.
     Within,
+    /// Messages with null items, for every reason and for several at once.
+    Null,
 }
 
 impl Kind {
-    pub const ALL: [Kind; 7] = [
+    pub const ALL: [Kind; 8] = [
         Kind::Mixed,
         Kind::Deep,
         Kind::Full,
@@ -42,6 +44,7 @@ impl Kind {
         Kind::Spent,
         Kind::Flagged,
         Kind::Within,
+        Kind::Null,
     ];
 
     pub const fn name(self) -> &'static str {
@@ -53,6 +56,7 @@ impl Kind {
             Kind::Spent => "spent",
             Kind::Flagged => "flagged",
             Kind::Within => "within",
+            Kind::Null => "null",
         }
     }
 
@@ -82,7 +86,7 @@ pub fn journal(kind: Kind, seed: u64, records: usize) -> Vec<u8> {
         Kind::Full => generator.settle(DOMAINS - 2, 10),
         Kind::Junk => {}
         Kind::Spent | Kind::Within => generator.settle(1, 0),
-        Kind::Flagged => generator.settle(3, 0),
+        Kind::Flagged | Kind::Null => generator.settle(3, 0),
     }
     while generator.left > 0 {
         generator.step(kind);
@@ -329,6 +333,25 @@ impl Generator {
                 self.around(space, selector, order, mask)
             }
         }
+    }
+
+    /// A malformed descriptor: its order too large, its end past the space's or its base not aligned.
+    fn malformed_descriptor(&mut self) -> u32 {
+        let space = self.space();
+        let limit = space.order_limit();
+        let selector = self.random.below(space.selectors());
+        let (base, order) = match self.random.below(3) {
+            0 => (selector, limit + 1 + self.random.below(31 - limit)),
+            // Object bases wrap, so no object range ends past the space.
+            1 if space != Space::Object => {
+                let order = self.random.below(limit + 1);
+                let past = space.selectors() + selector;
+                (past >> order << order, order)
+            }
+            _ => (selector | 1, 1 + self.random.below(limit)),
+        };
+        let mask = self.mask();
+        Descriptor::new(space, base, order, mask).word()
     }
 
     /// An object selector word, at times past the end of the space.
@@ -762,6 +785,23 @@ impl Generator {
         self.message(ROOT, portal, 0, window, &items)
     }
 
+    /// A CALL with some of its windows and items made null or malformed.
+    fn null_call(&mut self) -> Record {
+        let mut record = self.call(false);
+        let windows = record.target[1..3].iter_mut();
+        let typed = (record.source[0] >> 16) as usize;
+        let slots = record.source[HEADER_WORDS..].rchunks_exact_mut(2);
+        let items = slots.take(typed).map(|slot| &mut slot[1]);
+        for descriptor in windows.chain(items) {
+            match self.random.below(6) {
+                0 => *descriptor = self.random.word() & !3,
+                1 => *descriptor = self.malformed_descriptor(),
+                _ => {}
+            }
+        }
+        record
+    }
+
     /// A mask for a REVOKE: the given one, with a permission of its space added where it has
     /// none. One mask in eight has none, and is refused.
     fn revoke_mask(&mut self, space: Space, mask: u32) -> u32 {
@@ -914,6 +954,12 @@ impl Generator {
                 0..=39 => self.call_within(),
                 40..=54 => self.call(false),
                 55..=79 => self.revoke_line(),
+                _ => self.lookup(),
+            },
+            Kind::Null => match draw {
+                0..=69 => self.null_call(),
+                70..=79 => self.call(false),
+                80..=89 => self.revoke(false),
                 _ => self.lookup(),
             },
         };

@@ -24,5 +24,5 @@ pub use boot::boot;
 pub use calls::{hypercall, serve, Arguments, Hypercall};
 pub use census::census;
 pub use damage::{damage, is_sound, Damage, Location};
-pub use message::untyped;
+pub use message::{untyped, Reason};
 pub use status::{Reply, Status};

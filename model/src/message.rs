@@ -2,7 +2,7 @@
 //! typed items downward from the last.
 
 use crate::calls::{delegate_range, execution_context, Caller};
-use crate::descriptor::{Descriptor, Range};
+use crate::descriptor::{Descriptor, Malformed, Range};
 use crate::layout::{BLOCK_WORDS, DATA_WORDS, HEADER_WORDS};
 use crate::status::Status;
 use crate::tables::{
@@ -13,15 +13,41 @@ use crate::tables::{
 const TRANSLATE_WINDOW: usize = 1;
 const DELEGATE_WINDOW: usize = 2;
 
-/// Bits of an item's second word.
+/// Bits of an item's second word, as sent; only the first arrives.
 const ITEM_DELEGATE: u32 = 1;
 const ITEM_HYPERVISOR: u32 = 1 << 11;
 const HOTSPOT_SHIFT: u32 = 12;
+
+/// Where the second word, as received, has the reason of a null item.
+const REASON_SHIFT: u32 = 1;
 
 /// Words of a typed item: its second word lies below its descriptor.
 const ITEM_WORDS: usize = 2;
 
 type Block = [u32; BLOCK_WORDS];
+
+/// Why a typed item is null; the numbers are the interface's. The least that holds is given.
+#[derive(Clone, Copy, PartialEq, Eq, Debug)]
+#[repr(u32)]
+pub enum Reason {
+    /// The item's descriptor or its window is null.
+    NullDescriptor = 1,
+    /// The item's descriptor or its window is malformed.
+    MalformedDescriptor = 2,
+    /// Item and window are ranges of different spaces.
+    TypesDiffer = 3,
+    /// A delegation filled no place.
+    NothingFilled = 4,
+    /// A translation found no range of the receiver inside the window.
+    TranslationBroke = 5,
+}
+
+impl Reason {
+    /// The interface's number for this reason.
+    pub const fn number(self) -> u32 {
+        self as u32
+    }
+}
 
 /// Counts of untyped words and typed items in word 0, if they fit the data words.
 fn counts(word: u32) -> Option<(usize, usize)> {
@@ -81,10 +107,12 @@ pub(crate) fn call(
     let sent_items = sent.rchunks_exact(ITEM_WORDS);
     let received_items = received_typed.rchunks_exact_mut(ITEM_WORDS);
     for (from, to) in sent_items.zip(received_items).take(typed) {
-        to[1] = transfer
-            .item(Descriptor::from_word(from[1]), from[0])
-            .word();
-        to[0] = from[0] & ITEM_DELEGATE;
+        let (shown, reason) = match transfer.item(Descriptor::from_word(from[1]), from[0]) {
+            Ok(range) => (range.descriptor(), 0),
+            Err(reason) => (Descriptor::NULL, reason.number()),
+        };
+        to[1] = shown.word();
+        to[0] = from[0] & ITEM_DELEGATE | reason << REASON_SHIFT;
     }
     Ok(transfer.filled)
 }
@@ -100,26 +128,17 @@ struct Transfer<'a, 'b> {
 }
 
 impl Transfer<'_, '_> {
-    /// Runs one item; what the receiver is shown, the null descriptor if it failed.
-    fn item(&mut self, item: Descriptor, second: u32) -> Descriptor {
-        let delegates = second & ITEM_DELEGATE != 0;
-        let window = if delegates {
-            self.delegate_window
-        } else {
-            self.translate_window
-        };
-        let (Ok(Some(item)), Ok(Some(window))) = (item.range(), window.range()) else {
-            return Descriptor::NULL;
-        };
-        if item.space != window.space {
-            return Descriptor::NULL;
-        }
-        let shown = if delegates {
+    /// Runs one item; the range that the receiver is shown, or why there is none.
+    fn item(&mut self, item: Descriptor, second: u32) -> Result<Range, Reason> {
+        if second & ITEM_DELEGATE != 0 {
+            let (item, window) = ranges(item, self.delegate_window)?;
             self.delegate(item, window, second)
+                .ok_or(Reason::NothingFilled)
         } else {
+            let (item, window) = ranges(item, self.translate_window)?;
             translate(self.tables.places, self.sender, item, self.receiver, window)
-        };
-        shown.map_or(Descriptor::NULL, Range::descriptor)
+                .ok_or(Reason::TranslationBroke)
+        }
     }
 
     /// Fills what item and window have in common; the range shown has the item's mask.
@@ -139,6 +158,19 @@ impl Transfer<'_, '_> {
             mask: item.mask,
             ..to
         })
+    }
+}
+
+/// The ranges of an item and its window, if they lie in one space. Each reason is looked for
+/// in both before the next one is.
+fn ranges(item: Descriptor, window: Descriptor) -> Result<(Range, Range), Reason> {
+    match (item.range(), window.range()) {
+        (Ok(None), _) | (_, Ok(None)) => Err(Reason::NullDescriptor),
+        (Err(Malformed), _) | (_, Err(Malformed)) => Err(Reason::MalformedDescriptor),
+        (Ok(Some(item)), Ok(Some(window))) if item.space != window.space => {
+            Err(Reason::TypesDiffer)
+        }
+        (Ok(Some(item)), Ok(Some(window))) => Ok((item, window)),
     }
 }
 

@@ -88,11 +88,6 @@ pub const STORED: &[(&str, Source)] = &[
         Source::Bytes(&[11, 0, 0, 0, 0, 0, 0, 0, 0, 0, 0, 0, 0]),
     ),
     ("absent.journal", Source::Absent),
-    ("mixed-1.journal", Source::Kept),
-    ("mixed-3.journal", Source::Kept),
-    ("deep-1.journal", Source::Kept),
-    ("deep-2.journal", Source::Kept),
-    ("deep-4.journal", Source::Kept),
     ("revoking-1.journal", Source::Kept),
     ("revoking-2.journal", Source::Kept),
     ("revoking-3.journal", Source::Kept),
@@ -170,6 +165,14 @@ pub const STORED: &[(&str, Source)] = &[
     (
         "overlap-in-one-domain-3.journal",
         Source::Generated(Kind::Within, 3, 200),
+    ),
+    (
+        "null-items-1.journal",
+        Source::Generated(Kind::Null, 18, 200),
+    ),
+    (
+        "null-items-2.journal",
+        Source::Generated(Kind::Null, 26, 200),
     ),
     (
         "unrelated-words-1.journal",

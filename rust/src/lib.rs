@@ -52,7 +52,7 @@ pub mod words;
 
 pub use descriptor::Descriptor;
 pub use hypercall::{EventBase, Hypercall, Operation, Qpd};
-pub use message::{Block, Hotspot, Item, Received, TooLong};
+pub use message::{Block, Hotspot, Item, Reason, Received, TooLong};
 pub use numbers::{Domain, ObjectNumber, Place, Selector, Space};
 pub use refusal::Refusal;
 pub use tables::{Capability, Tables};

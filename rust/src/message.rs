@@ -14,6 +14,10 @@ const DELEGATE: u32 = 1;
 const FROM_HYPERVISOR: u32 = 1 << 11;
 const HOTSPOT_SHIFT: u32 = 12;
 
+/// Where a received second word has the reason of a null item.
+const REASON_SHIFT: u32 = 1;
+const REASON_MASK: u32 = 7;
+
 /// A message block of 64 words.
 #[derive(Clone, PartialEq, Eq, Debug)]
 pub struct Block([u32; BLOCK_WORDS]);
@@ -69,9 +73,69 @@ pub enum Received {
     /// The receiver's range that the sender's came from.
     Translated(Descriptor),
     /// Nothing was delegated.
-    NotDelegated,
+    NotDelegated(Reason),
     /// Nothing was translated.
-    NotTranslated,
+    NotTranslated(Reason),
+}
+
+/// Why a typed item came back null: of the reasons that apply, the one of least
+/// number.
+#[derive(Clone, Copy, PartialEq, Eq, Debug, Hash)]
+pub enum Reason {
+    /// The item's descriptor is null, or its window.
+    NullDescriptor,
+    /// The item's descriptor is malformed, or its window.
+    MalformedDescriptor,
+    /// Item and window are of different spaces.
+    TypesDiffer,
+    /// The delegation filled no place.
+    NothingFilled,
+    /// The range did not come from one range of the receiver inside its window.
+    TranslationBroke,
+    /// A number that the interface does not list, 0 among them; CALL gives none
+    /// such with a null item.
+    Unknown(u32),
+}
+
+impl Reason {
+    /// The reason that a received second word gives.
+    const fn read(second: u32) -> Reason {
+        match second >> REASON_SHIFT & REASON_MASK {
+            1 => Reason::NullDescriptor,
+            2 => Reason::MalformedDescriptor,
+            3 => Reason::TypesDiffer,
+            4 => Reason::NothingFilled,
+            5 => Reason::TranslationBroke,
+            number => Reason::Unknown(number),
+        }
+    }
+
+    /// The interface's number for this reason.
+    pub const fn number(self) -> u32 {
+        match self {
+            Reason::NullDescriptor => 1,
+            Reason::MalformedDescriptor => 2,
+            Reason::TypesDiffer => 3,
+            Reason::NothingFilled => 4,
+            Reason::TranslationBroke => 5,
+            Reason::Unknown(number) => number,
+        }
+    }
+}
+
+impl fmt::Display for Reason {
+    fn fmt(&self, out: &mut fmt::Formatter) -> fmt::Result {
+        match self {
+            Reason::NullDescriptor => out.write_str("the range or its window is null"),
+            Reason::MalformedDescriptor => out.write_str("the range or its window is malformed"),
+            Reason::TypesDiffer => out.write_str("range and window are of different spaces"),
+            Reason::NothingFilled => out.write_str("nothing was filled"),
+            Reason::TranslationBroke => {
+                out.write_str("the range did not come from the receiver's window")
+            }
+            Reason::Unknown(number) => write!(out, "reason {number}"),
+        }
+    }
 }
 
 /// The mark of a message that does not fit a block.
@@ -146,11 +210,11 @@ impl Block {
         let fits = untyped + ITEM_WORDS * typed <= DATA_WORDS;
         let slots = self.0[HEADER_WORDS..].rchunks_exact(ITEM_WORDS);
         slots.take(if fits { typed } else { 0 }).map(|slot| {
-            let range = Descriptor::from_word(slot[1]);
-            match (slot[0] & DELEGATE, range) {
-                (0, Descriptor::NULL) => Received::NotTranslated,
+            let (second, range) = (slot[0], Descriptor::from_word(slot[1]));
+            match (second & DELEGATE, range) {
+                (0, Descriptor::NULL) => Received::NotTranslated(Reason::read(second)),
                 (0, _) => Received::Translated(range),
-                (_, Descriptor::NULL) => Received::NotDelegated,
+                (_, Descriptor::NULL) => Received::NotDelegated(Reason::read(second)),
                 _ => Received::Delegated(range),
             }
         })
@@ -206,7 +270,7 @@ mod tests {
         assert_eq!(block, Block::new());
         assert_eq!(block.set_message(&[1; 60], &[]), Ok(()));
         assert_eq!(block.set_message(&[], &[item; 30]), Ok(()));
-        assert!(block.received().eq([Received::NotTranslated; 30]));
+        assert_eq!(block.received().count(), 30);
     }
 
     #[test]
@@ -242,8 +306,28 @@ mod tests {
     fn a_received_descriptor_of_type_0_is_null() {
         let mut words = [0; BLOCK_WORDS];
         words[0] = 2 << 16;
-        words[60..].copy_from_slice(&[1, 4096, 0, 0xffff_fffc]);
-        let received = [Received::NotTranslated, Received::NotDelegated];
+        words[60..].copy_from_slice(&[3, 4096, 2, 0xffff_fffc]);
+        let reason = Reason::NullDescriptor;
+        let received = [Received::NotTranslated(reason), Received::NotDelegated(reason)];
         assert!(Block::from_words(words).received().eq(received));
+    }
+
+    #[test]
+    fn every_reason_has_its_number() {
+        for (number, reason) in [
+            (1, Reason::NullDescriptor),
+            (2, Reason::MalformedDescriptor),
+            (3, Reason::TypesDiffer),
+            (4, Reason::NothingFilled),
+            (5, Reason::TranslationBroke),
+            (0, Reason::Unknown(0)),
+            (6, Reason::Unknown(6)),
+            (7, Reason::Unknown(7)),
+        ] {
+            for other_bits in [0, 1, 16, 0xffff_fff1] {
+                assert_eq!(Reason::read(number << 1 | other_bits), reason);
+            }
+            assert_eq!(reason.number(), number);
+        }
     }
 }

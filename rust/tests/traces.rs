@@ -52,5 +52,5 @@ fn every_trace_is_met() {
         assert!(trace(&bytes) == expected, "{}", path.display());
         count += 1;
     }
-    assert_eq!(count, 11);
+    assert_eq!(count, 6);
 }

@@ -3,7 +3,8 @@
 use rudozhev::words::{OBJECT_WORDS, PLACE_WORDS};
 use rudozhev::{
     words, Block, Capability, Damage, Descriptor, Domain, EventBase, Hotspot, Hypercall, Item,
-    Location, ObjectNumber, Operation, Place, Qpd, Received, Refusal, Selector, Space, Tables,
+    Location, ObjectNumber, Operation, Place, Qpd, Reason, Received, Refusal, Selector, Space,
+    Tables,
 };
 
 const ROOT_EC: ObjectNumber = ObjectNumber::ROOT_EC;
@@ -189,6 +190,47 @@ fn the_hotspot_selects_the_part_of_the_window() -> Result<(), Refusal> {
 }
 
 #[test]
+fn a_null_item_says_why() -> Result<(), Refusal> {
+    let mut tables = partners()?;
+    let before = tables.clone();
+    let malformed = Descriptor::from_word(3969);
+    let pages = range(Space::Memory, 0, 3, 7);
+    let window = range(Space::Memory, 8, 3, 0);
+    let objects = range(Space::Object, 0, 6, 0);
+    let mask_0 = range(Space::Memory, 0, 3, 0);
+    for (item, window, reason, delegates, translates) in [
+        (Descriptor::NULL, window, Reason::NullDescriptor, true, true),
+        (pages, Descriptor::NULL, Reason::NullDescriptor, true, true),
+        (malformed, Descriptor::NULL, Reason::NullDescriptor, true, true),
+        (Descriptor::NULL, malformed, Reason::NullDescriptor, true, true),
+        (malformed, window, Reason::MalformedDescriptor, true, true),
+        (pages, malformed, Reason::MalformedDescriptor, true, true),
+        (malformed, objects, Reason::MalformedDescriptor, true, true),
+        (pages, objects, Reason::TypesDiffer, true, true),
+        (mask_0, window, Reason::NothingFilled, true, false),
+        (pages, window, Reason::TranslationBroke, false, true),
+    ] {
+        let delegate =
+            Item::Delegate { range: item, hotspot: Hotspot::ZERO, from_hypervisor: true };
+        let translate = Item::Translate { range: item };
+        for (asked, item, windows, null) in [
+            (delegates, delegate, (Descriptor::NULL, window), Received::NotDelegated(reason)),
+            (translates, translate, (window, Descriptor::NULL), Received::NotTranslated(reason)),
+        ] {
+            if asked {
+                let (mut source, mut target) = (Block::new(), Block::new());
+                target.set_windows(windows.0, windows.1);
+                source.set_message(&[], &[item]).expect("a short message");
+                assert_eq!(tables.call(ROOT_EC, selector(39), &source, &mut target)?, 0);
+                assert_eq!(target.received().collect::<Vec<_>>(), [null], "{item:?}");
+            }
+        }
+    }
+    assert!(tables == before);
+    Ok(())
+}
+
+#[test]
 fn what_is_lent_is_seen_translated_and_revoked() -> Result<(), Refusal> {
     let mut tables = partners()?;
     let pages = range(Space::Memory, 0, 3, 7);
@@ -208,7 +250,8 @@ fn what_is_lent_is_seen_translated_and_revoked() -> Result<(), Refusal> {
     assert_eq!(tables.call(object(CHILD_EC), selector(40), &source, &mut target)?, 0);
     assert_eq!(target.untyped(), [5, 6]);
     let received: Vec<Received> = target.received().collect();
-    assert_eq!(received, [Received::Translated(own), Received::NotTranslated]);
+    let broke = Received::NotTranslated(Reason::TranslationBroke);
+    assert_eq!(received, [Received::Translated(own), broke]);
 
     let place = Place::new(Domain::ROOT, Space::Memory, selector(8));
     let heir = Place::new(Domain::new(2).expect("a domain"), Space::Memory, selector(20));

@@ -1,6 +1,6 @@
 -- Laws of descriptors: what each definition gives on each of its ways out, what that tells a caller, and that words, fields and ranges make each other.
 use Prim.Native.Nat.{ℕ, _+_, _-_, _*_, _/_, _%_, _^_, _≤_, _<_, _∣_}
-use mathlib.Core.Path.{_≡_, refl, subst, _∙_}
+use mathlib.Core.Path.{_≡_, refl, sym, ap, subst, _∙_}
 use mathlib.Core.Bool.{Bool, true, false, cond, _&&_, _||_, and-eq-true-iff, or-true}
 use native.Mathlib.Nat.{mod-eq-of-lt, add-sub-cancel, div-div-eq-div-mul, dvd-mod-iff}
 use native.Mathlib.Omega.{arith}
@@ -16,8 +16,11 @@ use Rattle.descriptor.specs.declared.Range.{Range}
 use Rattle.descriptor.specs.declared.Reading.{Reading}
 use Rattle.descriptor.specs.declared.Reading.the-variants.{Null, Malformed, Good}
 use Rattle.descriptor.specs.declared.Match.the-variants.{Both, Neither}
-use Rattle.descriptor.specs.declared.Reason.the-variants.{NullDescriptor, TypesDiffer}
-use Rattle.descriptor.specs.Descriptors.{null, typeField, maskField, orderField, baseField, typeOf, wordOf, describe, wellFormed, wrapped, rangeOf, reading, matched, kept, Proper}
+use Rattle.descriptor.specs.declared.Reason.{Reason}
+use Rattle.descriptor.specs.declared.Reason.the-variants.{NullDescriptor, MalformedDescriptor, TypesDiffer, NothingFilled, TranslationBroke}
+use Rattle.descriptor.specs.declared.Received.{Received}
+use Rattle.descriptor.specs.declared.Received.the-variants.{NullItem, Shows}
+use Rattle.descriptor.specs.Descriptors.{null, typeField, maskField, orderField, baseField, typeOf, wordOf, describe, wellFormed, wrapped, rangeOf, reading, matched, reasonNumber, whyNull, kept, Proper}
 
 -- the lowest field is a remainder, and the highest a quotient
 
@@ -84,6 +87,30 @@ module _ (word space mask order base : ℕ)
   unfolding reading
   reading-good h = rw (t, m, o, b, ne-eqb (typeOf space) 0 (omega arith), add-sub-cancel space 1, h)
 
+-- and what it is read as tells its type
+pub null-type : (word : ℕ) → reading word ≡ Null → typeField word ≡ 0
+unfolding reading
+null-type word h = go (eqb (typeField word) 0) (wellFormed (typeField word - 1) (orderField word) (baseField word)) refl h
+  where
+    go : (none formed : Bool) → eqb (typeField word) 0 ≡ none → cond none Null (cond formed (Good (rangeOf (typeField word - 1) word)) Malformed) ≡ Null →
+        typeField word ≡ 0
+    go true formed e q = eqb-true (typeField word) 0 e
+    go false false e q = let never : _≡_ {A = ℕ} 0 1 = cc in absurd (omega arith)
+    go false true e q = let never : _≡_ {A = ℕ} 0 1 = cc in absurd (omega arith)
+
+pub good-type : (word : ℕ) (range : Range) → reading word ≡ Good range → typeField word ≡ typeOf (range .space)
+unfolding reading
+good-type word range h = go (eqb (typeField word) 0) (wellFormed (typeField word - 1) (orderField word) (baseField word)) refl h
+  where
+    go : (none formed : Bool) → eqb (typeField word) 0 ≡ none →
+        cond none Null (cond formed (Good (rangeOf (typeField word - 1) word)) Malformed) ≡ Good range → typeField word ≡ typeOf (range .space)
+    go true formed e q = let never : _≡_ {A = ℕ} 0 1 = cc in absurd (omega arith)
+    go false false e q = let never : _≡_ {A = ℕ} 0 1 = cc in absurd (omega arith)
+    go false true e q =
+        let same : typeField word - 1 ≡ range .space = cc in
+        let some = eqb-false (typeField word) 0 e in
+        omega arith
+
 -- a word is read the same once a descriptor keeps it
 pub reading-kept : (word : ℕ) → reading (kept word) ≡ reading word
 reading-kept word = go (eqb (typeField word) 0) refl
@@ -127,6 +154,41 @@ matched-good (Good a) (Good b) item window h = go (eqb (a .space) (b .space)) re
         (Good a ≡ Good item) × (Good b ≡ Good window) × (item .space ≡ window .space)
     go true e q = (cc, cc, cc (eqb-true (a .space) (b .space) e))
     go false e q = (cc, cc, cc)
+
+-- the reasons' numbers
+
+pub reason-some : (reason : Reason) → 1 ≤ reasonNumber reason
+reason-some NullDescriptor = omega arith
+reason-some MalformedDescriptor = omega arith
+reason-some TypesDiffer = omega arith
+reason-some NothingFilled = omega arith
+reason-some TranslationBroke = omega arith
+
+pub reason-most : (reason : Reason) → reasonNumber reason ≤ 5
+reason-most NullDescriptor = omega arith
+reason-most MalformedDescriptor = omega arith
+reason-most TypesDiffer = omega arith
+reason-most NothingFilled = omega arith
+reason-most TranslationBroke = omega arith
+
+pub why-most : (received : Received) → whyNull received ≤ 5
+why-most (NullItem reason) = reason-most reason
+why-most (Shows range) = omega arith
+
+-- no two have the same
+reason-at : ℕ → Reason
+reason-at n = cond (eqb n 1) NullDescriptor (cond (eqb n 2) MalformedDescriptor (cond (eqb n 3) TypesDiffer (cond (eqb n 4) NothingFilled TranslationBroke)))
+
+reason-back : (reason : Reason) → reason-at (reasonNumber reason) ≡ reason
+unfolding reason-at
+reason-back NullDescriptor = refl
+reason-back MalformedDescriptor = refl
+reason-back TypesDiffer = refl
+reason-back NothingFilled = refl
+reason-back TranslationBroke = refl
+
+pub same-reason : (a b : Reason) → reasonNumber a ≡ reasonNumber b → a ≡ b
+same-reason a b e = sym (reason-back a) ∙ ap reason-at e ∙ reason-back b
 
 -- which orders and bases are those of a range
 

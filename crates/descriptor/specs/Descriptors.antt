@@ -11,7 +11,10 @@ use Rattle.descriptor.specs.declared.Reading.{Reading}
 use Rattle.descriptor.specs.declared.Reading.the-variants.{Null, Malformed, Good}
 use Rattle.descriptor.specs.declared.Match.{Match}
 use Rattle.descriptor.specs.declared.Match.the-variants.{Both, Neither}
-use Rattle.descriptor.specs.declared.Reason.the-variants.{NullDescriptor, MalformedDescriptor, TypesDiffer}
+use Rattle.descriptor.specs.declared.Reason.{Reason}
+use Rattle.descriptor.specs.declared.Reason.the-variants.{NullDescriptor, MalformedDescriptor, TypesDiffer, NothingFilled, TranslationBroke}
+use Rattle.descriptor.specs.declared.Received.{Received}
+use Rattle.descriptor.specs.declared.Received.the-variants.{NullItem, Shows}
 
 -- the null descriptor
 abbrev pub null : ℕ
@@ -72,6 +75,19 @@ matched Malformed (Good window) = Neither MalformedDescriptor
 matched (Good item) Null = Neither NullDescriptor
 matched (Good item) Malformed = Neither MalformedDescriptor
 matched (Good item) (Good window) = cond (eqb (item .space) (window .space)) (Both item window) (Neither TypesDiffer)
+
+-- the number of the reason why an item is null
+abbrev pub reasonNumber : Reason → ℕ
+reasonNumber NullDescriptor = 1
+reasonNumber MalformedDescriptor = 2
+reasonNumber TypesDiffer = 3
+reasonNumber NothingFilled = 4
+reasonNumber TranslationBroke = 5
+
+-- why an item is null: the number of its reason, or 0 where it is not null
+abbrev pub whyNull : Received → ℕ
+whyNull (NullItem reason) = reasonNumber reason
+whyNull (Shows range) = 0
 
 -- a word as a descriptor keeps it: any word of type 0 is the null descriptor
 unfoldable pub kept : ℕ → ℕ

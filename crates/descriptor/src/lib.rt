@@ -2,7 +2,9 @@
 ghost use mathlib.Core.Path.{_≡_};
 ghost use Prim.Native.Nat.{_+_, _^_, _<_};
 ghost use Rattle.words.specs.Sizes.{selectors};
-ghost use Rattle.descriptor.specs.Descriptors.{kept, describe, reading, matched, wellFormed, Proper};
+ghost use Rattle.descriptor.specs.declared.Reading.the-variants.{Malformed};
+ghost use Rattle.descriptor.specs.declared.Match.the-variants.{Neither};
+ghost use Rattle.descriptor.specs.Descriptors.{kept, describe, reading, matched, reasonNumber, whyNull, wellFormed, Proper};
 use layout::Selector;
 use words::ranges;
 use words::sizes;
@@ -84,18 +86,52 @@ pub enum Received {
     Shows(Range),
 }
 
+impl Reason {
+    // The number of the reason.
+    pub fn number(self) -> u32
+        ensures { λ r. ⌜ r ≡ reasonNumber self ⌝ }
+    {
+        match self {
+            Reason::NullDescriptor => 1,
+            Reason::MalformedDescriptor => 2,
+            Reason::TypesDiffer => 3,
+            Reason::NothingFilled => 4,
+            Reason::TranslationBroke => 5,
+        }
+    }
+}
+
+impl Received {
+    // Why the item is null: the number of its reason, or 0 where it is not null.
+    pub fn why_null(self) -> u32
+        ensures { λ r. ⌜ r ≡ whyNull self ⌝ }
+    {
+        match self {
+            Received::NullItem(reason) => reason.number(),
+            Received::Shows(_) => 0,
+        }
+    }
+}
+
 impl Reading {
+    // Why a malformed item is null, by its window: a null descriptor comes first.
+    fn beside_malformed(self) -> Reason
+        ensures { λ r. ⌜ matched Malformed self ≡ Neither r ⌝ }
+    {
+        match self {
+            Reading::Null => Reason::NullDescriptor,
+            Reading::Malformed => Reason::MalformedDescriptor,
+            Reading::Good(_) => Reason::MalformedDescriptor,
+        }
+    }
+
     // The rule that matches an item's range with its window.
     pub fn matching(self, window: Reading) -> Match
         ensures { λ r. ⌜ r ≡ matched self window ⌝ }
     {
         match self {
             Reading::Null => Match::Neither(Reason::NullDescriptor),
-            Reading::Malformed => match window {
-                Reading::Null => Match::Neither(Reason::NullDescriptor),
-                Reading::Malformed => Match::Neither(Reason::MalformedDescriptor),
-                Reading::Good(_) => Match::Neither(Reason::MalformedDescriptor),
-            },
+            Reading::Malformed => Match::Neither(window.beside_malformed()),
             Reading::Good(item) => match window {
                 Reading::Null => Match::Neither(Reason::NullDescriptor),
                 Reading::Malformed => Match::Neither(Reason::MalformedDescriptor),

@@ -2,6 +2,7 @@
 pub mod DelegationLaws
 pub mod TransferLaws
 pub mod DeliveryLaws
+pub mod ReasonLaws
 pub mod ReceivedLaws
 pub mod InitialRangeLaws
 pub mod TranslationLaws

@@ -1,6 +1,7 @@
 -- What calls move: CALL's message item by item, offset by offset and word by word, and CREATE_PD's initial range. Each statement stands under one sentence.
 use Prim.Native.Nat.{ℕ, suc, _+_, _-_, _*_, _^_, _≤_, _<_, min}
 use mathlib.Core.Path.{_≡_}
+use mathlib.Core.Logic.{_↔_, _⊎_}
 use mathlib.Core.Bool.{true, false, _&&_}
 use mathlib.Core.List.{List}
 use lib.Bits.{bitAnd}
@@ -10,18 +11,20 @@ use Rattle.words.specs.Fields.{bits}
 use Rattle.words.specs.Sizes.{object, placeOf, domainOf, places}
 use Rattle.words.specs.Ranges.{raised}
 use Rattle.descriptor.specs.declared.Range.{Range}
-use Rattle.descriptor.specs.declared.Reading.the-variants.{Good}
+use Rattle.descriptor.specs.declared.Reading.the-variants.{Malformed, Good}
 use Rattle.descriptor.specs.declared.Match.the-variants.{Both}
+use Rattle.descriptor.specs.declared.Reason.{Reason}
+use Rattle.descriptor.specs.declared.Reason.the-variants.{NullDescriptor, MalformedDescriptor, TypesDiffer, NothingFilled, TranslationBroke}
 use Rattle.reply.specs.declared.Reply.the-variants.{Success}
 use Rattle.interface.specs.Basics.{if_then_else_, word}
 use Rattle.interface.specs.Places.{State, live, nothing, domainWord, kindOf}
 use Rattle.interface.specs.Damage.{soundState}
-use Rattle.interface.specs.RangeDescriptors.{describe, reading}
+use Rattle.interface.specs.RangeDescriptors.{describe, reading, reasonNumber}
 use Rattle.interface.specs.Effects.{run, filled}
 use Rattle.interface.specs.Verdicts.{Call, CALL, CREATE-PD, callerDomain, replyOf, blockOf}
 use Rattle.interface.specs.Creations.{freeRecord, nextDomain}
 use Rattle.interface.specs.Message.{receivedWord, Item, translateItem, itemOf, carried}
-use Rattle.interface.specs.Translations.{Translated}
+use Rattle.interface.specs.Translations.{Translated, Breaks}
 use Rattle.interface.specs.Rules.{rules, after}
 use Rattle.interface.specs.Consequences.{calleeDomain}
 
@@ -163,8 +166,44 @@ pub record TranslateShown (s : State) (c : Call) (item shown : ℕ) : Type 0 whe
   pub matched-exact : (range window : Range) → TranslatesTo c item range window →
       Translated (before s c item 0 .state) (callerDomain s c) (calleeDomain s c) range window (translatedItem s c item range window)
 
+-- the window of an item: the callee's word 2 where the item asks to delegate, and its word 1 where it asks to translate
+abbrev pub windowWord : Call → ℕ → ℕ
+windowWord c item = word (c .target) (if eqb (bits 0 0 (secondWord c item)) 1 then 2 else 1)
+
+-- the cause of each reason why an item is null. Several may hold at once: the last two hold of every item of their kind that has no range or no window, and then a lower one does
+abbrev pub Cause : State → Call → ℕ → Reason → Type 0
+-- a null descriptor: the item's type is 0, or its window's
+Cause s c item NullDescriptor = (bits 0 1 (firstWord c item) ≡ 0) ⊎ (bits 0 1 (windowWord c item) ≡ 0)
+-- malformed: the item's descriptor, or its window
+Cause s c item MalformedDescriptor = (reading (firstWord c item) ≡ Malformed) ⊎ (reading (windowWord c item) ≡ Malformed)
+-- the types differ
+Cause s c item TypesDiffer = bits 0 1 (firstWord c item) ≡ bits 0 1 (windowWord c item) → ⊥
+-- nothing filled: the item asks to delegate, and where it delegates a range to a window, no offset is due
+Cause s c item NothingFilled =
+    (bits 0 0 (secondWord c item) ≡ 1) ×
+    ((range window : Range) → DelegatesTo c item range window → (offset : ℕ) → offset < offsets range window →
+    Due (before s c item offset .state) (destinationAt s c item range window offset) (sourceAt s c item range window offset) (range .mask) → ⊥)
+-- the translation broke: the item asks to translate, and where it translates a range into a window, something breaks that on the state before the item
+Cause s c item TranslationBroke =
+    (bits 0 0 (secondWord c item) ≡ 0) ×
+    ((range window : Range) → TranslatesTo c item range window → Breaks (before s c item 0 .state) (callerDomain s c) (calleeDomain s c) range window)
+
+-- a reason is the first that applies: its cause holds, and none of a lower number does
+pub record FirstCause (s : State) (c : Call) (item : ℕ) (reason : Reason) : Type 0 where
+  pub holds : Cause s c item reason
+  pub none-lower : (other : Reason) → reasonNumber other < reasonNumber reason → Cause s c item other → ⊥
+
+-- the second word that the receiver gets of an item, beside what it is shown: bit 0 is the sender's; bits 1 to 3 have a reason's number exactly where that reason is the first that
+-- applies, and 0 exactly where the receiver is shown something; they have no number above 5, and no other bit is set
+pub record ReasonGiven (s : State) (c : Call) (item shown second : ℕ) : Type 0 where
+  pub same-kind : bits 0 0 second ≡ bits 0 0 (secondWord c item)
+  pub first-applies : (reason : Reason) → (bits 1 3 second ≡ reasonNumber reason) ↔ FirstCause s c item reason
+  pub success : (bits 1 3 second ≡ 0) ↔ (shown ≡ 0 → ⊥)
+  pub five-reasons : bits 1 3 second ≤ 5
+  pub four-bits : second < 2 ^ 4
+
 -- the receiver's block after CALL has 64 words: word 0 is the sender's; words 1 to 3 are its own; then come as many of the sender's as bits 0 to 15 of word 0 say; each item's
--- two words, from word 63 downward, are what the receiver is shown and bit 0 of the second word; and the words between are its own
+-- two words, from word 63 downward, are what the receiver is shown and, below it, the item's kind and why it is null; and the words between are its own
 pub record WordsDelivered (s : State) (c : Call) (block : List ℕ) : Type 0 where
   pub sixty-four : length block ≡ 64
   pub counts-taken : word block 0 ≡ word (c .source) 0
@@ -172,7 +211,7 @@ pub record WordsDelivered (s : State) (c : Call) (block : List ℕ) : Type 0 whe
   pub untyped-copied : (number : ℕ) → number < untyped c → word block (4 + number) ≡ word (c .source) (4 + number)
   pub delegate-shown : (item : ℕ) → item < itemCount c → bits 0 0 (secondWord c item) ≡ 1 → DelegateShown s c item (word block (63 - 2 * item))
   pub translate-shown : (item : ℕ) → item < itemCount c → bits 0 0 (secondWord c item) ≡ 0 → TranslateShown s c item (word block (63 - 2 * item))
-  pub second-bit : (item : ℕ) → item < itemCount c → word block (62 - 2 * item) ≡ bits 0 0 (secondWord c item)
+  pub reason-given : (item : ℕ) → item < itemCount c → ReasonGiven s c item (word block (63 - 2 * item)) (word block (62 - 2 * item))
   pub others-kept : (number : ℕ) → 4 + untyped c ≤ number → number < 64 - 2 * itemCount c → word block number ≡ word (c .target) number
 
 -- Every CALL that is granted gives the receiver its words so

@@ -25,5 +25,6 @@ pub mod Created
 pub mod DamageReport
 pub mod Translations
 pub mod Deliveries
+pub mod Reasons
 pub mod Examples
 pub mod SmallCases

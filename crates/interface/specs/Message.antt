@@ -17,7 +17,7 @@ use Rattle.descriptor.specs.declared.Reason.the-variants.{NothingFilled, Transl
 use Rattle.interface.specs.Basics.{if_then_else_, word, listed, allBelow}
 use Rattle.interface.specs.Places.{Cap, State}
 use Rattle.interface.specs.Boot.{hypervisor, root}
-use Rattle.interface.specs.RangeDescriptors.{null, describe, reading, matched}
+use Rattle.interface.specs.RangeDescriptors.{null, describe, reading, matched, whyNull}
 use Rattle.interface.specs.Effects.{Effect, give, ancestors, run, filled}
 
 -- the words before the payload: word 0, the windows for translate and delegate, and a spare word
@@ -75,6 +75,10 @@ hotspotField second = bits 12 31 second
 abbrev pub receivedWord : Received → ℕ
 receivedWord (NullItem reason) = null
 receivedWord (Shows range) = describe range
+
+-- and the second word, by the one that was sent and by why the item is null: bit 0 is that of the sent one, bits 1 to 3 are the reason's number, and no other bit is set
+abbrev pub receivedSecond : (second why : ℕ) → ℕ
+receivedSecond second why = delegateBit second + 2 * why
 
 -- an item's outcome: what the receiver is shown, and the delegations it asks for
 pub record Item : Type 0 where
@@ -194,7 +198,7 @@ untypedCopied source target =
     let u = untypedCount (word source 0) in
     take headWords block ++ take u (drop headWords source) ++ drop (headWords + u) block
 
--- after some items in turn, each on the tables that those before it left; the received second word keeps bit 0 only
+-- after some items in turn, each on the tables that those before it left
 unfoldable pub carried : State → ℕ → ℕ → List ℕ → List ℕ → ℕ → Moved
 carried s sender receiver source target zero = record { effects = []; filled = 0; block = untypedCopied source target }
 carried s sender receiver source target (suc i) =
@@ -204,7 +208,9 @@ carried s sender receiver source target (suc i) =
     record {
       effects = before .effects ++ item .effects;
       filled = before .filled + filled (item .effects) now;
-      block = set (set (before .block) (descriptorAt i) (receivedWord (item .received))) (secondAt i) (delegateBit (word source (secondAt i)));
+      block =
+          set (set (before .block) (descriptorAt i) (receivedWord (item .received))) (secondAt i)
+          (receivedSecond (word source (secondAt i)) (whyNull (item .received)));
     }
 
 -- the whole message

@@ -3,7 +3,7 @@
 use mathlib.Core.Bool.{Bool, true, false}
 use Rattle.descriptor.specs.declared.Reading.{Reading}
 use Rattle.descriptor.specs.declared.Reading.the-variants.{Null, Malformed, Good}
-pub use Rattle.descriptor.specs.Descriptors.{null, typeField, maskField, orderField, baseField, typeOf, wordOf, describe}
+pub use Rattle.descriptor.specs.Descriptors.{null, typeField, maskField, orderField, baseField, typeOf, wordOf, describe, reasonNumber, whyNull}
 unfoldable pub use Rattle.descriptor.specs.Descriptors.{wellFormed, wrapped, reading, matched}
 
 -- whether a word is read as malformed

@@ -1,9 +1,10 @@
--- Small cases worked by hand, for the definitions that the worked examples do not reach: the history, steps, translation and the damage report.
+-- Small cases worked by hand, for the definitions that the worked examples do not reach: the history, steps, translation, why an item is null, and the damage report.
 use Prim.Native.Nat.{ℕ, _+_, _-_}
 use mathlib.Core.Path.{_≡_}
 use mathlib.Core.Bool.{Bool, true, false, _&&_}
 use mathlib.Core.List.{List, [], _∷_}
 use lib.Dec.{eqb, leb, ltb}
+use Rattle.words.specs.Sizes.{blockWords}
 use Rattle.descriptor.specs.declared.Range.{Range}
 use Rattle.descriptor.specs.declared.Match.the-variants.{Both}
 use Rattle.descriptor.specs.declared.Reason.the-variants.{TranslationBroke}
@@ -13,10 +14,10 @@ use Rattle.reply.specs.declared.Fault.{Fault}
 use Rattle.reply.specs.declared.Fault.the-variants.{NoFault, AtRecord, AtPlace}
 use Rattle.interface.specs.Basics.{if_then_else_, word, put, listed}
 use Rattle.interface.specs.Places.{Cap, State}
-use Rattle.interface.specs.Boot.{boot}
+use Rattle.interface.specs.Boot.{boot, root}
 use Rattle.interface.specs.Damage.{rulesOfDamage, firstFault}
 use Rattle.interface.specs.Effects.{give, make, hold, cut, store, filled}
-use Rattle.interface.specs.Message.{translateItem}
+use Rattle.interface.specs.Message.{translateWindow, descriptorAt, secondAt, delegateBit, translateItem, carried}
 use Rattle.interface.specs.History.{History, held, told, note, noteAll, heir}
 use Rattle.interface.specs.Examples.{Each, pages}
 
@@ -56,6 +57,13 @@ twoPages base =
 -- what a receiver is shown of domain 2's pages 8 and 9, through a window
 abbrev pub pagesShown : ℕ → ℕ → Range → Received
 pagesShown base receiver window = translateItem (twoPages base) 2 receiver (Both (pages 8 1) window) .received
+
+-- the second word that the root gets, on boot's state, of an item from itself: by the item's descriptor, its second word and the window that it is for
+abbrev pub secondOnBoot : (descriptor second window : ℕ) → ℕ
+secondOnBoot descriptor second window =
+    let source = listed blockWords (put (put (λ i. 0) (descriptorAt 0) descriptor) (secondAt 0) second) in
+    let target = listed blockWords (put (λ i. 0) (translateWindow + delegateBit second) window) in
+    word (carried boot root root source target 1 .block) (secondAt 0)
 
 -- a state with other words in one place, or in one record
 abbrev pub placeChanged : State → ℕ → Cap → State
@@ -119,6 +127,31 @@ damageCases =
     ∷ (faultOf (deepLine 31) ≡ NoFault)
     ∷ [])
 
+-- received second words: each reason why an item is null, and an item that is not
+abbrev pub reasonCases : List (Type 0)
+reasonCases =
+    ( -- a null descriptor, the item's or its window's, also where the other one is malformed
+    (secondOnBoot 0 2049 33153 ≡ 3)
+    ∷ (secondOnBoot 413 2049 0 ≡ 3)
+    ∷ (secondOnBoot 3969 2049 0 ≡ 3)
+    ∷ (secondOnBoot 0 2049 3969 ≡ 3)
+    ∷ (secondOnBoot 0 0 769 ≡ 2)
+    ∷  -- a malformed one, also where the types differ
+    (secondOnBoot 3969 2049 33153 ≡ 5)
+    ∷ (secondOnBoot 413 2049 3969 ≡ 5)
+    ∷ (secondOnBoot 3969 2049 771 ≡ 5)
+    ∷ (secondOnBoot 3969 0 769 ≡ 4)
+    ∷  -- pages for a window of objects
+    (secondOnBoot 413 2049 771 ≡ 7)
+    ∷ (secondOnBoot 413 0 771 ≡ 6)
+    ∷  -- mask 0 fills nothing; and root page 0 is null, also where the sent bits 1 to 3 are set
+    (secondOnBoot 385 2049 33153 ≡ 9)
+    ∷ (secondOnBoot 413 0 769 ≡ 10)
+    ∷ (secondOnBoot 413 14 769 ≡ 10)
+    ∷  -- with mask 7 the hypervisor's pages 0 to 7 are delegated
+    (secondOnBoot 413 2049 33153 ≡ 1)
+    ∷ [])
+
 -- Each small case follows from the definitions
 abbrev pub SmallCases : Type 0
 SmallCases =
@@ -143,6 +176,8 @@ SmallCases =
     (pagesShown 9 1 (pages 0 6) ≡ NullItem TranslationBroke)
     ∷ (pagesShown 10 1 (pages 8 1) ≡ NullItem TranslationBroke)
     ∷ (pagesShown 10 3 (pages 0 6) ≡ NullItem TranslationBroke)
+    ∷  -- received second words
+    Each reasonCases
     ∷  -- boot has no fault; of places of domain 0 that changed the lower one is named, and a changed record before them
     (faultOf boot ≡ NoFault)
     ∷ (faultOf (placesChanged 9 11 (record { resource = 9; permissions = 1; parent = 0; depth = 0 })) ≡ AtPlace 2 9)

@@ -3,6 +3,7 @@ ghost use Rattle.interface.specs.Consequences.{StaysSound, DamagedExactly, Refu
 ghost use Rattle.interface.specs.Refusals.{CallRefusedExactly, CreationsRefusedExactly, SmCtrlRefusedExactly, LookupRefusedExactly, RevokeRefusedExactly, CensusRefusedExactly, DispatchRefusedExactly, MalformedExactly};
 ghost use Rattle.interface.specs.Created.{CreatedExactly};
 ghost use Rattle.interface.specs.Deliveries.{DeliversItems, DeliversWords, DeliversRange};
+ghost use Rattle.interface.specs.Reasons.{NothingElseChanges};
 ghost use Rattle.interface.specs.Translations.{TranslatesExactly};
 ghost use Rattle.interface.specs.DamageReport.{DamageNamed};
 ghost use Rattle.interface.specs.Demand.{LastRevokeExists, Demand3};
@@ -106,9 +107,15 @@ pub fn delivers_items()
     ensures { λ r. ⌜ DeliversItems ⌝ }
 {}
 
-// CALL gives the receiver each of the 64 words of its block: the sender's counts and untyped words, what each item shows, and the rest as it was.
+// CALL gives the receiver each of the 64 words of its block: the sender's counts and untyped words, what each item shows, its kind and the first reason why it is null, and the rest
+// as it was.
 pub fn delivers_words()
     ensures { λ r. ⌜ DeliversWords ⌝ }
+{}
+
+// The reasons of null items change the received second words and nothing else: no reply, no step, no table, no history, no line of a journal.
+pub fn nothing_else_changes()
+    ensures { λ r. ⌜ NothingElseChanges ⌝ }
 {}
 
 // CREATE_PD delivers its initial range to the new domain, which was empty, at each offset where the delegation is due and nowhere else.

@@ -11,8 +11,9 @@ use borrow.Rule.Slice.PartMut.{putMid, post-is}
 use Rattle.words.specs.Sizes.{object, selectors, domains, blockWords}
 use Rattle.interface.specs.Basics.{word}
 use Rattle.interface.specs.Places.{State, capAt, capTable, placesIn}
+use Rattle.interface.specs.RangeDescriptors.{whyNull}
 use Rattle.interface.specs.Effects.{run, filled}
-use Rattle.interface.specs.Message.{headWords, untypedCount, typedCount, translateWindow, delegateWindow, itemWords, descriptorAt, secondAt, delegateBit, receivedWord, Item, Moved, itemOf, untypedCopied, carried, transfer}
+use Rattle.interface.specs.Message.{headWords, untypedCount, typedCount, translateWindow, delegateWindow, itemWords, descriptorAt, secondAt, receivedWord, receivedSecond, Item, Moved, itemOf, untypedCopied, carried, transfer}
 use Rattle.interface.proofs.Tables.TurnLaws.{run-append}
 use Rattle.interface.proofs.Tables.TableLaws.{cap-table-back}
 use Rattle.interface.proofs.Deliveries.ReceivedLaws.{copied-long}
@@ -62,16 +63,15 @@ module _ {start : List ℕ} {sender receiver : ℕ} {source upper₀ : List ℕ}
   present s = itemBy s sender receiver (word source (descriptorAt i)) (word source (secondAt i)) translating delegating
 
   -- one more item, whose words are stored
-  pub moving-on : {after : List ℕ} {outcome : Outcome} → i < typed → Done table after (present (placesIn table)) outcome →
+  pub moving-on : {after : List ℕ} {outcome : Outcome} {first second : ℕ} → i < typed → Done table after (present (placesIn table)) outcome →
+      first ≡ receivedWord (outcome .received) → second ≡ receivedSecond (word source (secondAt i)) (whyNull (outcome .received)) →
       Moving start sender receiver source upper₀ typed translating delegating after
-      (set (set upper (length upper₀ - 1 - itemWords * i) (outcome .word)) (length upper₀ - 2 - itemWords * i) (word source (secondAt i) % 2))
-      (count + outcome .filled) (i + 1)
+      (set (set upper (length upper₀ - 1 - itemWords * i) first) (length upper₀ - 2 - itemWords * i) second) (count + outcome .filled) (i + 1)
   unfolding movedBy
-  moving-on {after} {outcome} l done =
+  moving-on {after} {outcome} l done is-first is-second =
       let now = run (so-far .effects) (placesIn start) in
       let there : Done table after (present now) outcome = subst (λ (s : State). Done table after (present s) outcome) (g .shows) done in
       let taken = there .taken in
-      let bit : word source (secondAt i) % 2 ≡ delegateBit (word source (secondAt i)) = omega arith in
       rw (add-one i)
       (record {
         ready = g .ready;
@@ -84,7 +84,7 @@ module _ {start : List ℕ} {sender receiver : ℕ} {source upper₀ : List ℕ}
             taken .shows ∙ ap (run (present now .effects)) (g .shows) ∙
             sym (run-append (so-far .effects) (present now .effects) (placesIn start));
         fills = rw (g .fills, taken .fills) (ap (λ (s : State). so-far .filled + filled (present now .effects) s) (g .shows));
-        receives = rw (g .receives, there .shown, bit);
+        receives = rw (g .receives, is-first, is-second, there .shown);
       })
 
   -- once every item is done
@@ -131,12 +131,13 @@ module _ (s : State) (sender receiver : ℕ) (source target : List ℕ) (below :
         let so-far = moved i in
         let item = itemOf (run (so-far .effects) s) sender receiver source target i in
         let first = receivedWord (item .received) in
+        let second = receivedSecond (word source (secondAt i)) (whyNull (item .received)) in
         let high = blockWords - below - 1 - itemWords * i in
         let low = blockWords - below - 2 - itemWords * i in
         rw (
           carried-moved i (omega arith),
           set-after (take below copied) (so-far .block) high (descriptorAt i) first (rw lower-length (omega arith)),
-          set-after (take below copied) (set (so-far .block) high first) low (secondAt i) (delegateBit (word source (secondAt i))) (rw lower-length (omega arith)),
+          set-after (take below copied) (set (so-far .block) high first) low (secondAt i) second (rw lower-length (omega arith)),
           upper-length,
         )
 

@@ -6,8 +6,9 @@ use lib.ListN.{length, set}
 use Rattle.words.specs.Sizes.{domains, blockWords}
 use Rattle.interface.specs.Basics.{word}
 use Rattle.interface.specs.Places.{State, capAt, capTable, placesIn}
+use Rattle.interface.specs.RangeDescriptors.{whyNull}
 use Rattle.interface.specs.Effects.{run, filled}
-use Rattle.interface.specs.Message.{payloadWords, itemWords, descriptorAt, secondAt, delegateBit, receivedWord, Moved}
+use Rattle.interface.specs.Message.{payloadWords, itemWords, descriptorAt, secondAt, receivedWord, receivedSecond, Moved}
 use Rattle.delegation.specs.Delegating.{LiveLinks}
 use Rattle.transfer.specs.Typed.{itemBy}
 
@@ -31,7 +32,7 @@ movedBy s sender receiver source translating delegating upper (suc i) =
       filled = before .filled + filled (item .effects) now;
       block =
           set (set (before .block) (length upper - 1 - itemWords * i) (receivedWord (item .received))) (length upper - 2 - itemWords * i)
-          (delegateBit (word source (secondAt i)));
+          (receivedSecond (word source (secondAt i)) (whyNull (item .received)));
     }
 
 -- a transfer that is done: the table it leaves, what it shows, the places filled, the words received, and that the links are live still

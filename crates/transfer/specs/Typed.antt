@@ -4,10 +4,13 @@ use mathlib.Core.Path.{_≡_}
 use mathlib.Core.List.{List}
 use lib.Dec.{eqb}
 use Rattle.words.specs.Sizes.{object, selectors}
+use Rattle.descriptor.specs.declared.Range.{Range}
+use Rattle.descriptor.specs.declared.Received.the-variants.{Shows}
+use Rattle.descriptor.specs.Descriptors.{Proper}
 use Rattle.interface.specs.Basics.{if_then_else_}
 use Rattle.interface.specs.Places.{State}
 use Rattle.interface.specs.RangeDescriptors.{reading, matched}
-use Rattle.interface.specs.Message.{delegateBit, receivedWord, Item, delegateItem, translateItem}
+use Rattle.interface.specs.Message.{delegateBit, Item, delegateItem, translateItem}
 use Rattle.delegation.specs.Delegating.{Taken}
 use Rattle.transfer.specs.declared.Outcome.{Outcome}
 
@@ -18,8 +21,9 @@ itemBy s sender receiver descriptor second translating delegating =
     then delegateItem s sender receiver second (matched (reading descriptor) (reading delegating))
     else translateItem s sender receiver (matched (reading descriptor) (reading translating))
 
--- an item that is done: the word that the receiver is given, and its delegations, no more than the object space has selectors
+-- an item that is done: what the receiver is shown, which is proper if it is a range, and its delegations, no more than the object space has selectors
 pub record Done (before after : List ℕ) (item : Item) (outcome : Outcome) : Type 0 where
-  pub shown : outcome .word ≡ receivedWord (item .received)
+  pub shown : outcome .received ≡ item .received
+  pub proper : (range : Range) → outcome .received ≡ Shows range → Proper range
   pub taken : Taken before after (item .effects) (outcome .filled)
   pub few : outcome .filled ≤ selectors object

@@ -4,10 +4,10 @@ ghost use mathlib.Core.Path.{_≡_};
 ghost use Rattle.words.specs.Sizes.{domains};
 ghost use Rattle.descriptor.specs.declared.Range.{Range};
 ghost use Rattle.descriptor.specs.declared.Match.the-variants.{Both};
-ghost use Rattle.descriptor.specs.declared.Received.the-variants.{Shows};
-ghost use Rattle.descriptor.specs.Descriptors.{null, Proper};
+ghost use Rattle.descriptor.specs.declared.Received.the-variants.{NullItem, Shows};
+ghost use Rattle.descriptor.specs.Descriptors.{whyNull, Proper};
 ghost use Rattle.interface.specs.Places.{capAt, placesIn};
-ghost use Rattle.interface.specs.Message.{receivedWord, sourceDomain, delegateItem, transfer};
+ghost use Rattle.interface.specs.Message.{receivedWord, receivedSecond, sourceDomain, delegateItem, transfer};
 ghost use Rattle.places.specs.Table.{Sized};
 ghost use Rattle.descent.specs.Walks.{Linked};
 ghost use Rattle.blocks.specs.Fitting.{Blocks};
@@ -18,24 +18,25 @@ ghost use Rattle.transfer.specs.Turns.{Ready, movedBy, Transferred};
 use descriptor::Descriptor;
 use descriptor::Match;
 use descriptor::Range;
+use descriptor::Reason;
 use descriptor::Received;
 use interface::block;
 use words::sizes;
 
 const ITEM_WORDS: usize = 2;
 
-// What one typed item comes to: the descriptor that the receiver is given, and how many places were filled.
+// What one typed item comes to: what the receiver is shown, and how many places were filled.
 struct Outcome {
-    word: u32,
+    received: Received,
     filled: u32,
 }
 
-// An item of which the receiver is shown nothing.
-fn null_item() -> Outcome
-    ensures { λ r. ⌜ r ≡ record { word = null; filled = 0 } ⌝ }
+// An item that is null.
+fn null_item(reason: Reason) -> Outcome
+    ensures { λ r. ⌜ r ≡ record { received = NullItem reason; filled = 0 } ⌝ }
 {
     Outcome {
-        word: Descriptor::NULL.word(),
+        received: Received::NullItem(reason),
         filled: 0,
     }
 }
@@ -61,6 +62,13 @@ fn received_word(received: Received) -> u32
     }
 }
 
+// The second word that the receiver is given: the item's kind, and why it is null.
+fn received_second(second: u32, received: Received) -> u32
+    ensures { λ r. ⌜ r ≡ receivedSecond second (whyNull received) ⌝ }
+{
+    second % 2 + 2 * received.why_null()
+}
+
 // Delegates an item. Where nothing is filled the item is null.
 fn delegate_item(
     table: &mut [u32],
@@ -83,10 +91,10 @@ fn delegate_item(
         window,
     );
     if filled == 0 {
-        return null_item();
+        return null_item(Reason::NothingFilled);
     }
     Outcome {
-        word: windows::word_of(windows::destination(hotspot, item, window)),
+        received: Received::Shows(windows::destination(hotspot, item, window)),
         filled,
     }
 }
@@ -106,7 +114,7 @@ fn item(
 {
     if second % 2 == 1 {
         return match windows::matching(descriptor, delegating) {
-            Match::Neither(_) => null_item(),
+            Match::Neither(reason) => null_item(reason),
             Match::Both(range, window) => delegate_item(
                 table,
                 sender,
@@ -118,9 +126,9 @@ fn item(
         };
     }
     match windows::matching(descriptor, translating) {
-        Match::Neither(_) => null_item(),
+        Match::Neither(reason) => null_item(reason),
         Match::Both(range, window) => Outcome {
-            word: received_word(translation::translate(table, sender, receiver, range, window)),
+            received: translation::translate(table, sender, receiver, range, window),
             filled: 0,
         },
     }
@@ -158,8 +166,9 @@ fn items(
             translating,
             delegating,
         );
-        upper[top - 1 - before] = outcome.word;
-        upper[top - 2 - before] = second % 2;
+        let received = outcome.received;
+        upper[top - 1 - before] = received_word(received);
+        upper[top - 2 - before] = received_second(second, received);
         filled += outcome.filled;
         i += 1;
     }

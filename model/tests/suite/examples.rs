@@ -232,6 +232,115 @@ fn a_lookup_finds_the_whole_run() {
     );
 }
 
+/// A block of these words, and 0 in all others.
+fn block(words: &[(usize, u32)]) -> [u32; 64] {
+    let mut block = [0; 64];
+    for &(word, value) in words {
+        block[word] = value;
+    }
+    block
+}
+
+#[test]
+fn a_message_a_translation_and_a_revocation() {
+    let mut world = World::boot();
+    world.does(CREATE_SM, ROOT_EC, &[40, 32, 0]);
+    world.does(CREATE_PD, ROOT_EC, &[41, 32, 163_855]);
+    assert_eq!(world.row(552), [31, 3, 361, 1]);
+    world.does(CREATE_EC, ROOT_EC, &[42, 41, 0, 0]);
+    world.does(CREATE_EC, ROOT_EC, &[43, 32, 0, 0]);
+    world.does(CREATE_PT, ROOT_EC, &[44, 32, 42, 0, 0, 0]);
+    world.does(CREATE_PT, ROOT_EC, &[45, 32, 43, 0, 0, 0]);
+    assert_eq!(world.record(33), [2, 2, 0, 0, 0]);
+    assert_eq!(world.record(35), [4, 33, 0, 0, 0]);
+    assert_eq!(world.record(36), [4, 34, 0, 0, 0]);
+    // Two words and a portal to domain 2.
+    let words = [(0, 65_538), (4, 1000), (5, 2000)];
+    let source = [&words[..], &[(62, 20_481), (63, 184_331)]].concat();
+    let after = [&words[..], &[(2, 771), (62, 1), (63, 20_491)]].concat();
+    let received = world.sends(ROOT_EC, 44, block(&source), block(&[(2, 771)]));
+    assert_eq!(received, (1, block(&after)));
+    assert_eq!(world.row(517), [36, 2, 366, 1]);
+    assert_eq!(model::untyped(&received.1), [1000, 2000]);
+    // Through it domain 2 shows its semaphore, in a window with the root's and in one without.
+    let before = world.clone();
+    let source = block(&[(0, 65_536), (63, 163_967)]);
+    for (window, second, shown) in [(131_715, 0, 163_855), (643, 10, 0)] {
+        let after = [(0, 65_536), (1, window), (62, second), (63, shown)];
+        let received = world.sends(33, 5, source, block(&[(1, window)]));
+        assert_eq!(received, (0, block(&after)));
+        assert!(world == before);
+    }
+    assert_eq!(world.heirs(360), [552]);
+    world.does(REVOKE, ROOT_EC, &[163_967, 0]);
+    assert_eq!(world.row(552), NULL);
+    assert_eq!(world.row(360), [31, 3, 0, 0]);
+}
+
+/// The root with a second execution context, and a portal to it at selector 41.
+fn two_contexts() -> World {
+    let mut world = World::boot();
+    world.does(CREATE_EC, ROOT_EC, &[40, 32, 0, 0]);
+    world.does(CREATE_PT, ROOT_EC, &[41, 32, 40, 0, 0, 0]);
+    world
+}
+
+#[test]
+fn several_items_in_one_message() {
+    let mut world = two_contexts();
+    let source = [
+        (0, 196_608),
+        (63, 29),
+        (62, 2049),
+        (61, 4125),
+        (60, 2049),
+        (59, 32_893),
+        (58, 0),
+    ];
+    let target = [(1, 769), (2, 32_769)];
+    let items = [(63, 32_797), (62, 1), (60, 9), (58, 10)];
+    let after = [&[source[0]], &target[..], &items].concat();
+    let received = world.sends(ROOT_EC, 41, block(&source), block(&target));
+    assert_eq!(received, (1, block(&after)));
+    let mut expected = two_contexts();
+    expected.set_row(200, [0, 7, 1, 1]);
+    assert!(world == expected);
+}
+
+#[test]
+fn why_an_item_is_null() {
+    let mut world = two_contexts();
+    let before = world.clone();
+    // Descriptor and second word sent, window, reason, second word received.
+    let examples = [
+        (0, 2049, 33_153, 1, 3),
+        (413, 2049, 0, 1, 3),
+        (3969, 2049, 0, 1, 3),
+        (3969, 2049, 33_153, 2, 5),
+        (413, 2049, 3969, 2, 5),
+        (3969, 2049, 771, 2, 5),
+        (413, 2049, 771, 3, 7),
+        (385, 2049, 33_153, 4, 9),
+        (0, 0, 769, 1, 2),
+        (3969, 0, 769, 2, 4),
+        (413, 0, 771, 3, 6),
+        (413, 0, 769, 5, 10),
+        (413, 14, 769, 5, 10),
+    ];
+    for (descriptor, second, window, reason, received) in examples {
+        let target = [(1 + second as usize % 2, window)];
+        let source = block(&[(0, 65_536), (62, second), (63, descriptor)]);
+        let after = [target[0], (0, 65_536), (62, received)];
+        assert_eq!(
+            world.sends(ROOT_EC, 41, source, block(&target)),
+            (0, block(&after)),
+            "descriptor {descriptor}, window {window}"
+        );
+        assert_eq!(received >> 1 & 7, reason);
+        assert!(world == before);
+    }
+}
+
 #[test]
 fn the_example_journal() {
     let mut bytes = Vec::new();
@@ -388,4 +497,23 @@ fn slip_only_the_root_takes_from_the_hypervisor() {
         world.row(place(1, MEMORY, 5)),
         [5, 7, place(2, MEMORY, 5) + 1, 2]
     );
+}
+
+#[test]
+fn slip_a_null_window_comes_before_a_malformed_item() {
+    let mut world = World::partners();
+    let malformed = range(MEMORY, 2, 2, 31);
+    let good = range(MEMORY, 0, 6, 31);
+    for (item, window, reason) in [
+        (malformed, 0, 1),
+        (0, malformed, 1),
+        (malformed, good, 2),
+        (good, malformed, 2),
+    ] {
+        for kind in [TRANSLATE, DELEGATE] {
+            let target = windows(window, window);
+            let received = world.shows(ROOT_EC, TO_CHILD, (item, kind), target);
+            assert_eq!(received, (0, kind + 2 * reason));
+        }
+    }
 }

@@ -35,6 +35,65 @@ pub fn refused_mask(record: &Record, status: Status) -> Option<(Space, u32)> {
     refused.then_some((range.space, range.mask))
 }
 
+/// Items with their windows that tell the order of the reasons.
+const PAIRS: [&str; 4] = [
+    "a malformed item for a null window",
+    "a null item for a malformed window",
+    "a malformed item for a window of another type",
+    "an item of another type for a malformed window",
+];
+
+/// Typed items as their receivers got them, by kind: 0 translate, 1 delegate.
+#[derive(Default, Debug)]
+pub struct Received {
+    /// By reason; 0 for those that are not null.
+    reasons: [[u32; 6]; 2],
+    pairs: [[u32; PAIRS.len()]; 2],
+}
+
+impl Received {
+    /// Counts the items of a CALL that succeeded.
+    pub fn count(&mut self, record: &Record) {
+        for item in 0..(record.source[0] >> 16) as usize {
+            let (second, shown) = (record.target[62 - 2 * item], record.target[63 - 2 * item]);
+            let (kind, reason) = (second as usize % 2, second / 2);
+            assert_eq!(shown == 0, reason != 0);
+            self.reasons[kind][reason as usize] += 1;
+            let item = Descriptor::from_word(record.source[63 - 2 * item]);
+            let window = Descriptor::from_word(record.target[1 + kind]);
+            let differ = item.space() != window.space();
+            let (pair, expected) = match (item.range(), window.range()) {
+                (Err(_), Ok(None)) => (0, 1),
+                (Ok(None), Err(_)) => (1, 1),
+                (Err(_), Ok(Some(_))) if differ => (2, 2),
+                (Ok(Some(_)), Err(_)) if differ => (3, 2),
+                _ => continue,
+            };
+            assert_eq!(reason, expected, "{}", PAIRS[pair]);
+            self.pairs[kind][pair] += 1;
+        }
+    }
+
+    /// Every reason that a kind can have, and every pair, with its count.
+    pub fn counts(&self) -> Vec<(String, u32)> {
+        let kinds = [
+            ("translate", [0, 1, 2, 3, 5]),
+            ("delegate", [0, 1, 2, 3, 4]),
+        ];
+        let mut counts = Vec::new();
+        for (kind, (name, reasons)) in kinds.into_iter().enumerate() {
+            for reason in reasons {
+                let count = self.reasons[kind][reason];
+                counts.push((format!("{name}: reason {reason}"), count));
+            }
+            for (pair, &count) in PAIRS.iter().zip(&self.pairs[kind]) {
+                counts.push((format!("{name}: {pair}"), count));
+            }
+        }
+        counts
+    }
+}
+
 /// What some journals reached.
 #[derive(Default)]
 struct Reached {
@@ -50,6 +109,7 @@ struct Reached {
     delegated: u32,
     delegated_ranges: u32,
     undelegated: u32,
+    received: Received,
     /// Delegations from domain 0, and within one domain.
     from_hypervisor: u32,
     within_domain: u32,
@@ -103,10 +163,11 @@ fn reach(kind: Kind, seeds: u64, count: usize) -> Reached {
 
 fn items(replay: &Replay, reached: &mut Reached) {
     let (source, target) = (&replay.record.source, &replay.record.target);
+    reached.received.count(&replay.record);
     for item in 0..(source[0] >> 16) as usize {
         let shown = target[63 - 2 * item];
         let ranges = u32::from(shown >> 7 & 31 > 0);
-        match (target[62 - 2 * item], shown) {
+        match (target[62 - 2 * item] % 2, shown) {
             (0, 0) => reached.untranslated += 1,
             (0, _) => {
                 reached.translated += 1;
@@ -199,5 +260,13 @@ fn one_revocation_in_eight_is_refused_for_its_mask() {
             "{refused} of {all} in {} journals",
             kind.name()
         );
+    }
+}
+
+#[test]
+fn null_journals_reach_every_reason_and_every_pair() {
+    let reached = reach(Kind::Null, 20, 300);
+    for (feature, count) in reached.received.counts() {
+        assert!(count >= 50, "{feature}: {count} times");
     }
 }

@@ -53,6 +53,23 @@ fn read(word: u32) -> Named {
     }
 }
 
+/// Why an item of a kind is null, by its descriptor and its window: the first case that holds.
+fn reason(words: [u32; 2], kind: u32) -> u32 {
+    let is_null = |word: u32| matches!(read(word), Named::Null);
+    let is_malformed = |word: u32| matches!(read(word), Named::Malformed);
+    let cases = [
+        words.into_iter().any(is_null),
+        words.into_iter().any(is_malformed),
+        words[0] % 4 != words[1] % 4,
+        kind == 1,
+        kind == 0,
+    ];
+    (1..)
+        .zip(cases)
+        .find(|(_, holds)| *holds)
+        .map_or(0, |(number, _)| number)
+}
+
 type Outcome = Result<u32, Status>;
 
 impl History {
@@ -316,8 +333,7 @@ impl History {
         for item in 0..typed {
             let (descriptor, second) = (source[63 - 2 * item], source[62 - 2 * item]);
             let window = target[1 + second as usize % 2];
-            target[62 - 2 * item] = second % 2;
-            target[63 - 2 * item] = match (read(descriptor), read(window)) {
+            let shown = match (read(descriptor), read(window)) {
                 (
                     Named::Range {
                         space,
@@ -369,6 +385,11 @@ impl History {
                     }
                 }
                 _ => 0,
+            };
+            target[63 - 2 * item] = shown;
+            target[62 - 2 * item] = match shown {
+                0 => second % 2 + 2 * reason([descriptor, window], second % 2),
+                _ => second % 2,
             };
         }
         Ok(filled)
@@ -590,4 +611,9 @@ fn the_history_tells_full_journals() {
 #[test]
 fn the_history_tells_junk_journals() {
     follow_all(Kind::Junk, 60, 250, 4);
+}
+
+#[test]
+fn the_history_tells_journals_of_null_items() {
+    follow_all(Kind::Null, 40, 250, 50);
 }

@@ -1,7 +1,7 @@
 //! The journals of the replay program's run: `crates/replay` holds them, the
 //! arguments and what must be printed. From the root of the repository
 //! `cargo run --release --offline --manifest-path model/Cargo.toml --bin journals -- crates/replay`
-//! writes all of it again, but for the eleven journals that have traces.
+//! writes all of it again, but for the six journals that have traces.
 
 use std::collections::BTreeSet;
 use std::fs;
@@ -13,7 +13,7 @@ use model::stored::{Source, STORED};
 use model::tables::{Domain, Place, Selector, Space};
 use model::{Hypercall, Status};
 
-use crate::generator::{every_status_of_every_call, refused_mask};
+use crate::generator::{every_status_of_every_call, refused_mask, Received};
 
 /// A file of the replay program's crate.
 pub fn replay_file(name: &str) -> PathBuf {
@@ -119,6 +119,7 @@ struct Features {
     translated_ranges: u32,
     untranslated: u32,
     window_too_small: u32,
+    received: Received,
     revoked_beyond_children: u32,
     revoked_inside_the_range: u32,
     revoked_with_self: u32,
@@ -211,7 +212,10 @@ impl Features {
             (Hypercall::CreatePd, Status::NoRoom) if used < 64 => self.no_room_for_a_domain += 1,
             (Hypercall::CreatePd, Status::NoRoom) if domains < 7 => self.no_room_for_a_record += 1,
             (Hypercall::CreatePd, Status::Success) => self.create_pd(before, record, after),
-            (Hypercall::Call, Status::Success) => self.message(before, record),
+            (Hypercall::Call, Status::Success) => {
+                self.received.count(record);
+                self.message(before, record);
+            }
             (Hypercall::Revoke, Status::Success) => self.revoke(before, record, after),
             _ => {}
         }
@@ -417,6 +421,9 @@ fn the_stored_journals_hold_every_feature() {
     for (feature, count) in counts {
         assert!(count > 0, "no journal holds {feature}");
     }
+    for (feature, count) in all.received.counts() {
+        assert!(count >= 5, "{feature}: {count} times");
+    }
     assert!(all.records > 10_000 && all.longest >= 3_000);
 }
 
@@ -446,6 +453,10 @@ fn each_generated_journal_holds_what_its_name_says() {
                 held.beside_itself,
                 held.revoked_inside_the_range,
             ],
+            "null-items" => {
+                let counts = held.received.counts();
+                counts.into_iter().map(|(_, count)| count).collect()
+            }
             "unrelated-words" => [Status::BadPar, Status::BadCaller]
                 .map(|status| u32::from(held.statuses.iter().any(|held| held.1 == status.number())))
                 .to_vec(),

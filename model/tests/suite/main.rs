@@ -8,6 +8,7 @@ mod history;
 mod journals;
 mod messages;
 mod programs;
+mod reasons;
 mod totality;
 mod vectors;
 mod world;

@@ -18,8 +18,8 @@ fn untyped_words_are_copied_and_the_rest_stays() {
     let mut expected = target;
     expected[0] = 5 | 2 << 16;
     expected[4..9].copy_from_slice(&[100, 101, 102, 103, 104]);
-    // Null items keep bit 0 of their second words.
-    expected[60..64].copy_from_slice(&[1, 0, 0, 0]);
+    // The items are null: of the second words sent only the kinds arrive, with reason 1.
+    expected[60..64].copy_from_slice(&[3, 0, 2, 0]);
     assert_eq!(block, expected);
 }
 
@@ -59,19 +59,20 @@ fn an_item_is_null_if_a_descriptor_is_null_malformed_or_of_another_type() {
     );
     assert_eq!(world.gives(TO_CHILD, page, page, hot(0)), 1);
     let wide = range(MEMORY, 0, 6, 0);
+    // Each with the second words of a translation and of a delegation that it makes null.
     let others = [
-        0,
-        ODD_NULL,
-        MALFORMED,
-        range(IO, 3, 0, 7),
-        range(OBJECT, 3, 0, 7),
-        range(MEMORY, 64, 0, 7),
+        (0, 2, 3),
+        (ODD_NULL, 2, 3),
+        (MALFORMED, 4, 5),
+        (range(MEMORY, 64, 0, 7), 4, 5),
+        (range(IO, 3, 0, 7), 6, 7),
+        (range(OBJECT, 3, 0, 7), 6, 7),
     ];
     let translate = (page, TRANSLATE);
     let delegate = (page, hot(9));
     let back = |world: &mut World, item, target| world.shows(CHILD_EC, TO_ROOT, item, target);
     // Each kind of item reads its own window only.
-    for other in others {
+    for (other, ..) in others {
         let mut world = world.clone();
         assert_eq!(back(&mut world, translate, windows(wide, other)), (page, 0));
         assert_eq!(
@@ -80,16 +81,22 @@ fn an_item_is_null_if_a_descriptor_is_null_malformed_or_of_another_type() {
         );
     }
     let before = world.clone();
-    for other in others {
-        assert_eq!(back(&mut world, translate, windows(other, wide)), (0, 0));
-        assert_eq!(back(&mut world, delegate, windows(wide, other)), (0, 1));
+    for (other, translated, delegated) in others {
+        assert_eq!(
+            back(&mut world, translate, windows(other, wide)),
+            (0, translated)
+        );
+        assert_eq!(
+            back(&mut world, delegate, windows(wide, other)),
+            (0, delegated)
+        );
         assert_eq!(
             back(&mut world, (other, TRANSLATE), windows(wide, wide)),
-            (0, 0)
+            (0, translated)
         );
         assert_eq!(
             back(&mut world, (other, hot(9)), windows(wide, wide)),
-            (0, 1)
+            (0, delegated)
         );
         assert!(world == before);
     }
@@ -102,16 +109,16 @@ fn a_delegation_that_fills_nothing_is_null() {
     // No source, no common permission, then a live destination.
     assert_eq!(
         world.shows(ROOT_EC, TO_CHILD, (range(MEMORY, 3, 0, 7), hot(3)), window),
-        (0, 1)
+        (0, 9)
     );
     let none = (range(MEMORY, 3, 0, 24), hot(3) | FROM_HYPERVISOR);
-    assert_eq!(world.shows(ROOT_EC, TO_CHILD, none, window), (0, 1));
+    assert_eq!(world.shows(ROOT_EC, TO_CHILD, none, window), (0, 9));
     let item = (range(MEMORY, 3, 0, 31), hot(3) | FROM_HYPERVISOR);
     assert_eq!(
         world.shows(ROOT_EC, TO_CHILD, item, window),
         (range(MEMORY, 3, 0, 31), 1)
     );
-    assert_eq!(world.shows(ROOT_EC, TO_CHILD, item, window), (0, 1));
+    assert_eq!(world.shows(ROOT_EC, TO_CHILD, item, window), (0, 9));
 }
 
 #[test]
@@ -203,6 +210,10 @@ fn each_item_sees_what_the_one_before_left() {
     ];
     assert_eq!(shown, expected);
     assert_eq!(
+        [62, 60, 58, 56, 54].map(|word| block[word]),
+        [1, 1, 9, 1, 0]
+    );
+    assert_eq!(
         world.row(place(1, MEMORY, 12)),
         [4, 3, place(1, MEMORY, 11) + 1, 3]
     );
@@ -275,8 +286,9 @@ fn translated(world: &mut World, item: u32, window: u32) -> u32 {
     let before = world.clone();
     let item = (item, 0xffff_fffe);
     let (filled, block) = world.sends(CHILD_EC, TO_ROOT, message(0, &[item]), windows(window, 0));
-    assert_eq!((filled, block[62]), (0, 0));
     assert!(*world == before, "a translation changed a table");
+    let second = if block[63] == 0 { 10 } else { 0 };
+    assert_eq!((filled, block[62]), (0, second));
     block[63]
 }
 

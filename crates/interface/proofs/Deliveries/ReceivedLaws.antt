@@ -5,7 +5,6 @@ use mathlib.Core.Bool.{true}
 use mathlib.Core.List.{List, [], _∷_, _++_}
 use mathlib.Core.Logic.{_≢_}
 use native.Mathlib.Decide.{le-ind}
-use native.Mathlib.Nat.{add-zero}
 use native.Mathlib.Omega.{arith}
 use lib.ListN.{length, take, drop, set, length-drop, length-set, List·getD-append}
 use lib.Seq.{paste, length-paste, length-paste-head, length-take-le, getD-take, getD-drop, getD-append-add, getD-set-same, getD-set-other}
@@ -16,16 +15,15 @@ use Rattle.descriptor.proofs.DescriptorLaws.{good-proper}
 use Rattle.interface.specs.Basics.{word, listed}
 use Rattle.interface.specs.Places.{State}
 use Rattle.interface.specs.Damage.{soundState}
-use Rattle.interface.specs.RangeDescriptors.{describe}
+use Rattle.interface.specs.RangeDescriptors.{whyNull}
 use Rattle.interface.specs.Effects.{Effect, run, fillsOne, filled}
 use Rattle.interface.specs.Verdicts.{Call, callerDomain}
-use Rattle.interface.specs.Message.{headWords, payloadWords, untypedCount, itemWords, descriptorAt, secondAt, delegateBit, receivedWord, Item, sourceDomain, delegateItem, untypedCopied, carried}
+use Rattle.interface.specs.Message.{headWords, payloadWords, untypedCount, itemWords, descriptorAt, secondAt, delegateBit, receivedWord, receivedSecond, Item, untypedCopied, carried}
 use Rattle.interface.specs.Consequences.{calleeDomain}
 use Rattle.interface.specs.Deliveries.{Due, untyped, itemCount, DelegatesTo, offsets, hotBase, sourceAt, destinationAt, before, DelegateShown, TranslateShown, WordsDelivered, DeliversWords}
-use Rattle.interface.proofs.Tables.TurnLaws.{filled-append}
-use Rattle.interface.proofs.Tables.TableLaws.{take-listed}
 use Rattle.interface.proofs.Deliveries.TranslationLaws.{translates-exactly}
-use Rattle.interface.proofs.Deliveries.DeliveryLaws.{not-due-same, due-counts, movedBefore, stateBefore, outcome, stepAt, before-first, outcome-delegates, steps-listed, outcome-unmatched, outcome-matched, outcome-untranslated, CallGranted, call-granted, caller-domain-small, before-sound, call-delivers}
+use Rattle.interface.proofs.Deliveries.DeliveryLaws.{movedBefore, outcome, before-first, outcome-unmatched, outcome-matched, outcome-untranslated, CallGranted, call-granted, caller-domain-small, before-sound, call-delivers}
+use Rattle.interface.proofs.Deliveries.ReasonLaws.{received-by-filled, none-filled, some-filled, reason-given}
 
 -- A copy into a list: its words before the copy, in it, and after it.
 module _ (into from : List ℕ) (at size : ℕ) (fits : at + size ≤ length into) (enough : size ≤ length from) where
@@ -53,23 +51,8 @@ module _ (into from : List ℕ) (at size : ℕ) (fits : at + size ≤ length int
       ap (word (paste into at from size)) rest ∙ getD-append-add head (drop (at + size) into) (i - (at + size)) 0 ∙
       getD-drop (at + size) into (i - (at + size)) 0 ∙ ap (word into) back
 
--- How many places listed steps fill: none where no step does, and some where one does.
-module _ (step : ℕ → Effect) (s : State) where
-  listed-next : (n : ℕ) → filled (listed (suc n) step) s ≡ filled (listed n step) s + fillsOne (step n) (run (listed n step) s)
-  unfolding listed filled
-  listed-next n = filled-append (listed n step) (step n ∷ []) s ∙ (rw add-zero)
-
-  fill-none : (n : ℕ) → ((i : ℕ) → i < n → fillsOne (step i) (run (listed i step) s) ≡ 0) → filled (listed n step) s ≡ 0
-  fill-none zero none = unfold listed filled in refl
-  fill-none (suc n) none = listed-next n ∙ (rw (none n (omega arith), fill-none n (λ i l. none i (omega arith))))
-
-  fill-some : (n i : ℕ) → i < n → fillsOne (step i) (run (listed i step) s) ≡ 1 → filled (listed n step) s ≡ 0 → ⊥
-  fill-some n i l one =
-      le-ind (λ (m : ℕ). filled (listed m step) s ≡ 0 → ⊥) (λ none. omega (arith, listed-next i))
-      (λ m b ih none. ih (omega (arith, listed-next m))) n l
-
 -- as many items fill the payload
-abbrev mostItems : ℕ
+abbrev pub mostItems : ℕ
 mostItems = payloadWords / itemWords
 
 -- The words of two items are four.
@@ -80,10 +63,10 @@ module _ (item later : ℕ) (after-it : item < later) (few : later < mostItems) 
   descriptor-off-second : descriptorAt item ≢ secondAt later
   descriptor-off-second = omega arith
 
-  second-off-descriptor : secondAt item ≢ descriptorAt later
+  pub second-off-descriptor : secondAt item ≢ descriptorAt later
   second-off-descriptor = omega arith
 
-  seconds-apart : secondAt item ≢ secondAt later
+  pub seconds-apart : secondAt item ≢ secondAt later
   seconds-apart = omega arith
 
 module _ (s : State) (c : Call) where
@@ -112,23 +95,23 @@ module _ (s : State) (c : Call) where
     -- an item's two words are set when it comes, and stay
     block-item : (item n : ℕ) → item < n → n ≤ mostItems →
         (word (blockAfter n) (descriptorAt item) ≡ receivedWord (outcome s c item .received)) ×
-        (word (blockAfter n) (secondAt item) ≡ delegateBit (word (c .source) (secondAt item)))
+        (word (blockAfter n) (secondAt item) ≡ receivedSecond (word (c .source) (secondAt item)) (whyNull (outcome s c item .received)))
     unfolding carried
     block-item item n l few =
         le-ind
         (λ (m : ℕ).
         m ≤ mostItems →
         (word (blockAfter m) (descriptorAt item) ≡ receivedWord (outcome s c item .received)) ×
-        (word (blockAfter m) (secondAt item) ≡ delegateBit (word (c .source) (secondAt item))))
+        (word (blockAfter m) (secondAt item) ≡ receivedSecond (word (c .source) (secondAt item)) (whyNull (outcome s c item .received))))
         (λ few-now.
         let apart : descriptorAt item ≢ secondAt item = omega arith in
         let old = blockAfter item in
         let shown = receivedWord (outcome s c item .received) in
-        let bit = delegateBit (word (c .source) (secondAt item)) in
+        let second = receivedSecond (word (c .source) (secondAt item)) (whyNull (outcome s c item .received)) in
         let in-old : descriptorAt item < length old = rw (block-long item) (omega arith) in
         let in-first : secondAt item < length (set old (descriptorAt item) shown) = simp length-set (rw (block-long item) (omega arith)) in (
-          getD-set-other (set old (descriptorAt item) shown) (secondAt item) (descriptorAt item) bit 0 apart ∙ getD-set-same old (descriptorAt item) shown 0 in-old,
-          getD-set-same (set old (descriptorAt item) shown) (secondAt item) bit 0 in-first,
+          getD-set-other (set old (descriptorAt item) shown) (secondAt item) (descriptorAt item) second 0 apart ∙ getD-set-same old (descriptorAt item) shown 0 in-old,
+          getD-set-same (set old (descriptorAt item) shown) (secondAt item) second 0 in-first,
         ))
         (λ m b ih few-now.
         let soon : m < mostItems = few-now in
@@ -140,49 +123,7 @@ module _ (s : State) (c : Call) where
         (rw (getD-set-other, getD-set-other) (as-before .0), rw (getD-set-other, getD-set-other) (as-before .1)))
         n l few
 
-  -- what is shown of an item that delegates: nothing where its steps fill none, and else its destination
-  module _ (item : ℕ) (range window : Range) (to : DelegatesTo c item range window) where
-    abbrev steps : List Effect
-    steps = listed (offsets range window) (stepAt s c item range window to)
-
-    abbrev destinationRange : Range
-    destinationRange =
-        record { space = range .space; base = hotBase c item range window window; order = min (range .order) (window .order); mask = range .mask }
-
-    state-at : (offset : ℕ) → offset ≤ offsets range window →
-        before s c item offset .state ≡ run (listed offset (stepAt s c item range window to)) (stateBefore s c item)
-    unfolding before
-    state-at offset l = rw (steps-listed s c item range window to, take-listed (stepAt s c item range window to) offset (offsets range window) l)
-
-    shown-none : filled steps (stateBefore s c item) ≡ 0 → receivedWord (outcome s c item .received) ≡ 0
-    unfolding delegateItem sourceDomain
-    shown-none none = rw (outcome-delegates s c item range window to, eq-eqb (filled steps (stateBefore s c item)) 0 none)
-
-    shown-some : (filled steps (stateBefore s c item) ≡ 0 → ⊥) → receivedWord (outcome s c item .received) ≡ describe destinationRange
-    unfolding delegateItem sourceDomain
-    shown-some some = rw (outcome-delegates s c item range window to, ne-eqb (filled steps (stateBefore s c item)) 0 some)
-
-    none-shown : ((offset : ℕ) → offset < offsets range window →
-        Due (before s c item offset .state) (destinationAt s c item range window offset) (sourceAt s c item range window offset) (range .mask) → ⊥) →
-        receivedWord (outcome s c item .received) ≡ 0
-    none-shown none =
-        shown-none
-        (fill-none (stepAt s c item range window to) (stateBefore s c item) (offsets range window)
-        (λ offset l.
-        let here = state-at offset (omega arith) in
-        rw here at
-        (not-due-same (before s c item offset .state) (destinationAt s c item range window offset) (sourceAt s c item range window offset) (range .mask)
-        (none offset l) .1)))
-
-    some-shown : (offset : ℕ) → offset < offsets range window →
-        Due (before s c item offset .state) (destinationAt s c item range window offset) (sourceAt s c item range window offset) (range .mask) →
-        receivedWord (outcome s c item .received) ≡ describe destinationRange
-    some-shown offset l due =
-        shown-some
-        (fill-some (stepAt s c item range window to) (stateBefore s c item) (offsets range window) offset l
-        (rw (state-at offset (omega arith)) at
-        (due-counts (before s c item offset .state) (destinationAt s c item range window offset) (sourceAt s c item range window offset) (range .mask) due)))
-
+  -- what is shown of an item that asks to delegate, and of one that asks to translate
   delegate-shown : (item shown : ℕ) → delegateBit (word (c .source) (secondAt item)) ≡ 1 → shown ≡ receivedWord (outcome s c item .received) →
       DelegateShown s c item shown
   delegate-shown item shown bit e =
@@ -191,8 +132,12 @@ module _ (s : State) (c : Call) where
             λ other.
             let (reason, null) = outcome-unmatched s c item other bit in
             e ∙ ap (λ (i : Item). receivedWord (i .received)) null;
-        none-due = λ range window to none. e ∙ none-shown item range window to none;
-        some-due = λ range window to offset l due. e ∙ some-shown item range window to offset l due;
+        none-due =
+            λ range window to none.
+            e ∙ (rw (received-by-filled s c item range window to, eq-eqb _ 0 (none-filled s c item range window to none)));
+        some-due =
+            λ range window to offset l due.
+            e ∙ (rw (received-by-filled s c item range window to, ne-eqb _ 0 (some-filled s c item range window to offset l due)));
       }
 
   translate-shown : (item shown : ℕ) → callerDomain s c < domains → soundState (before s c item 0 .state) ≡ true →
@@ -256,22 +201,22 @@ module _ (source target : List ℕ) (source-long : length source ≡ blockWords)
       paste-tail headed (drop headWords source) headWords (untypedCount (word source 0)) room enough number l ∙
       getD-set-other target 0 number (word source 0) 0 apart
 
-module _ (s : State) (c : Call) (answer : ℕ) (block : List ℕ) (granted : CallGranted s c answer block) (small : callerDomain s c < domains)
-    (sound : (item : ℕ) → soundState (before s c item 0 .state) ≡ true) where
+module _ (s : State) (c : Call) (answer : ℕ) (block : List ℕ) (granted : CallGranted s c answer block) where
   untyped-few : untyped c ≤ payloadWords
   untyped-few = let payload = granted .payload-fits in omega arith
 
-  items-few : itemCount c ≤ mostItems
+  pub items-few : itemCount c ≤ mostItems
   items-few = let payload = granted .payload-fits in omega arith
 
-  all-copied : length (untypedCopied (c .source) (c .target)) ≡ blockWords
+  pub all-copied : length (untypedCopied (c .source) (c .target)) ≡ blockWords
   all-copied = copied-long (c .source) (c .target) (granted .source-long) (granted .target-long) untyped-few
 
   below-items : (number : ℕ) → number < blockWords - itemWords * itemCount c → word (movedBefore s c (itemCount c) .block) number ≡ word (untypedCopied (c .source) (c .target)) number
   below-items = block-below s c all-copied (itemCount c)
 
-  words-delivered : WordsDelivered s c (movedBefore s c (itemCount c) .block)
-  words-delivered =
+  words-delivered : callerDomain s c < domains → ((item : ℕ) → soundState (before s c item 0 .state) ≡ true) →
+      WordsDelivered s c (movedBefore s c (itemCount c) .block)
+  words-delivered small sound =
       let payload = granted .payload-fits in
       let source-long = granted .source-long in
       let target-long = granted .target-long in
@@ -283,7 +228,10 @@ module _ (s : State) (c : Call) (answer : ℕ) (block : List ℕ) (granted : Cal
         untyped-copied = λ number l. below-items (headWords + number) (omega arith) ∙ copied-untyped (c .source) (c .target) source-long target-long few number l;
         delegate-shown = λ item l bit. delegate-shown s c item _ bit (block-item s c all-copied item (itemCount c) l items-few .0);
         translate-shown = λ item l bit. translate-shown s c item _ small (sound item) bit (block-item s c all-copied item (itemCount c) l items-few .0);
-        second-bit = λ item l. block-item s c all-copied item (itemCount c) l items-few .1;
+        reason-given =
+            λ item l.
+            let (first, second) = block-item s c all-copied item (itemCount c) l items-few in
+            reason-given s c item _ _ small (sound item) first second;
         others-kept = λ number l b. below-items number b ∙ copied-tail (c .source) (c .target) source-long target-long few number l;
       }
 

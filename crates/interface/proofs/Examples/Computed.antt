@@ -4,17 +4,16 @@ use mathlib.Core.Path.{_≡_, refl, ap, _∙_}
 use mathlib.Core.Bool.{Bool, true, false}
 use mathlib.Core.List.{List, [], _∷_, _++_}
 use Rattle.words.specs.Sizes.{memory, object, placeOf, spaceOf}
-use Rattle.descriptor.specs.Descriptors.{matched}
 use Rattle.interface.specs.Basics.{if_then_else_, listed, allBelow, countBelow, lowest}
 use Rattle.interface.specs.Places.{Cap, State, PD, domainWord}
 use Rattle.interface.specs.Boot.{boot, hypervisor, root}
 use Rattle.interface.specs.Damage.{pdsBelow, isEc, soundState}
-use Rattle.interface.specs.Effects.{Effect, give, cut, run, fillsOne, filled, make, hold}
+use Rattle.interface.specs.Effects.{Effect, give, cut, run, make, hold}
 use Rattle.interface.specs.Verdicts.{CALL, CREATE-PD, REVOKE, LOOKUP, grant, deliver, replyOf, blockOf}
 use Rattle.interface.specs.Creations.{freeRecord, creation, createSm, createPd}
 use Rattle.interface.specs.Revoke.{revoke}
 use Rattle.interface.specs.Lookup.{uniform, largest, around, found, lookup}
-use Rattle.interface.specs.Message.{payloadFits, sourceDomain, delegateItem, firstIn, nearest, common, translates, translateItem, itemOf, untypedCopied, carried}
+use Rattle.interface.specs.Message.{payloadFits}
 use Rattle.interface.specs.PortalCalls.{portalCall}
 use Rattle.interface.specs.Rules.{hypercall, called, rules, after}
 use Rattle.interface.specs.Journal.{bodyBytes, bodyWord, recordedCall, done, short, unknown, ended, beginning, readBy, contentsFrom, stopLines, replay, width, spelled, spelledLines}
@@ -24,7 +23,7 @@ use Rattle.interface.proofs.Sound.Soundness.{sound-facts, facts-sound, 
 use Rattle.interface.proofs.History.BootLaws.{boot-tables, boot-sound}
 use Rattle.interface.proofs.History.DemandLaws.{after-sound}
 use Rattle.interface.proofs.Journal.JournalLaws.{stateLines, stateReplay, replay-shown}
-use Rattle.interface.proofs.Examples.Shared.{_and_, descriptors, steps, dispatch}
+use Rattle.interface.proofs.Examples.Shared.{_and_, descriptors, steps, dispatch, items}
 
 -- the line of descent on its places: its state is sound, and REVOKE comes to these steps
 placed-sound : soundState placedLine ≡ true
@@ -138,13 +137,8 @@ unfolding messageCap messageRecord damage-rules boot-tables
 message-sound =
     tested-sound messageState (refl and refl and refl and refl and refl and refl and refl and refl and tt) (refl and refl and refl and refl and tt)
 
--- to unfold this is to unfold what a message's items compute by
-unfoldable items : Unit {0}
-unfolding matched fillsOne filled payloadFits sourceDomain delegateItem firstIn nearest common translates translateItem itemOf untypedCopied carried
-items = tt
-
 message-called : called messageState exampleMessage (hypercall CALL) ≡ deliver 4 messageGives blockReceived
-unfolding messageCap messageRecord dispatch descriptors isEc boot-tables steps listed allBelow items portalCall
+unfolding messageCap messageRecord dispatch descriptors isEc boot-tables steps listed items payloadFits portalCall
 message-called = refl
 
 message-granted : rules messageState exampleMessage ≡ deliver 4 messageGives blockReceived

@@ -9,17 +9,16 @@ use Rattle.interface.specs.Basics.{put, listed, lowest}
 use Rattle.interface.specs.Places.{Cap}
 use Rattle.interface.specs.Boot.{boot}
 use Rattle.interface.specs.Damage.{rulesOfDamage, firstFault, soundState}
-use Rattle.interface.specs.Effects.{among, fillsOne, filled}
-use Rattle.interface.specs.Message.{firstIn, nearest, common, translates, translateItem}
+use Rattle.interface.specs.Effects.{among}
 use Rattle.interface.specs.History.{latest, standing, held, origins, placeLink, heldCap, heldAmong, cutFilling, note, noteAll, cameFrom, heir}
 use Rattle.interface.specs.Examples.{Each}
-use Rattle.interface.specs.SmallCases.{placeChanged, recordsChanged, placesChanged, deepLine, faultOf, damageCases, SmallCases}
+use Rattle.interface.specs.SmallCases.{placeChanged, recordsChanged, placesChanged, deepLine, faultOf, damageCases, reasonCases, SmallCases}
 use Rattle.interface.proofs.Basics.BoolLaws.{not-both}
 use Rattle.interface.proofs.Basics.PutLaws.{put-other}
 use Rattle.interface.proofs.Sound.Soundness.{damage-rules}
 use Rattle.interface.proofs.History.BootLaws.{boot-tables, boot-sound}
 use Rattle.interface.proofs.Consequences.DamageReportLaws.{kept-none}
-use Rattle.interface.proofs.Examples.Shared.{_and_, steps}
+use Rattle.interface.proofs.Examples.Shared.{_and_, descriptors, steps, items}
 use Rattle.interface.proofs.Examples.FaultLaws.{recordFault, record-fault, placeFault, placeRules, place-fault}
 
 -- the first fault of boot's state with one place changed, with two, and with a line of delegations, is that of the places there
@@ -59,13 +58,18 @@ boot-faultless : faultOf boot ≡ NoFault
 unfolding soundState
 boot-faultless = kept-none boot rulesOfDamage boot-sound
 
--- to unfold this is to unfold what the cases of the history and of translation compute by
+-- to unfold this is to unfold what the cases of the history compute by
 unfoldable small-definitions : Unit {0}
-unfolding listed steps fillsOne filled firstIn nearest common translates translateItem latest standing held origins placeLink heldCap heldAmong cutFilling note noteAll cameFrom heir
+unfolding listed steps latest standing held origins placeLink heldCap heldAmong cutFilling note noteAll cameFrom heir
 small-definitions = tt
 
+reason-cases : Each reasonCases
+unfolding descriptors boot-tables steps listed items
+reason-cases =
+    refl and refl and refl and refl and refl and refl and refl and refl and refl and refl and refl and refl and refl and refl and refl and tt
+
 pub small-cases : SmallCases
-unfolding small-definitions damage-rules boot-tables put lowest recordFault placeFault
+unfolding small-definitions items damage-rules boot-tables put lowest recordFault placeFault
 small-cases =
-    refl and refl and refl and refl and refl and refl and refl and refl and refl and refl and refl and refl and refl and refl and boot-faultless and
+    refl and refl and refl and refl and refl and refl and refl and refl and refl and refl and refl and refl and refl and refl and reason-cases and boot-faultless and
     (two-changed 9 3 _ (omega arith) refl 11 refl ∙ refl) and record-before and record-fault _ _ _ refl and (two-changed 1000 2 _ (omega arith) refl 1001 refl ∙ refl) and damage-cases and tt

@@ -1,7 +1,6 @@
 -- The item is null where no place was filled, and shows the destination otherwise.
 use native.Mathlib.Omega.{arith}
 use borrow.Author.Needs.{needs}
-use Rattle.windows.proofs.WindowLaws.{destination-proper}
 use Rattle.transfer.proofs.ItemLaws.{delegated-none, delegated-some}
 use Rattle.transfer.proofs.delegate_item.Statement.{statement}
 use Rattle.transfer.proofs.delegate_item.Tie as tie
@@ -28,18 +27,14 @@ returns c = let done = c .before .before .before .before in
 destination-requires : tie.Need-destination-requires
 destination-requires c κs = search needs
 
-word-of-requires : tie.Need-word-of-requires
-word-of-requires c κs = let start = c .before .before .before .before .before .before .before .before in
-    rw (c .destination .ensures) (destination-proper _ (start .args .item) (start .args .window) (start .pre .3))
-
 same-length-2 : tie.Need-same-length-2
 same-length-2 c = search needs
 
 returns-2 : tie.Need-returns-2
-returns-2 c = let done = c .before .before .before .before .before in
+returns-2 c = let done = c .before .before .before .before in
     let start = done .before .before .before .before in
     delegated-some (start .args .sender) (start .args .receiver) (start .args .second) (start .args .item) (start .args .window) (done .before .source-domain .ensures .0)
-    (omega arith) (done .delegate .ensures) (start .pre .3) (c .before .before .if1 .left) (c .before .destination .ensures) (c .word-of .ensures)
+    (omega arith) (done .delegate .ensures) (start .pre .3) (c .before .if1 .left) (c .destination .ensures)
 
 pub delegate-item-spec : {M : Type 1} → statement M
 delegate-item-spec =
@@ -51,6 +46,5 @@ delegate-item-spec =
     same-length
     returns
     destination-requires
-    word-of-requires
     same-length-2
     returns-2)

@@ -2,6 +2,7 @@
 use Prim.Native.Nat.{_-_}
 use mathlib.Core.Path.{sym, _∙_}
 use native.Mathlib.Omega.{arith}
+use borrow.Author.Needs.{needs}
 use lib.ListN.{length-set}
 use Rattle.transfer.proofs.MovedLaws.{Moving, moving-begins, moving-on, moving-ends}
 use Rattle.transfer.proofs.items.Statement.{statement}
@@ -49,6 +50,9 @@ item-requires : tie.Need-item-requires Inv-loop μ-loop
 item-requires c κs = let g = c .before .before .before .before .loop .inv in
     (g .sized, g .live-links .linked, g .ready .sender-small, g .ready .receiver-small)
 
+received-word-requires : tie.Need-received-word-requires Inv-loop μ-loop
+received-word-requires c κs = c .before .before .item .ensures .proper
+
 sub-upper : tie.Need-sub-upper Inv-loop μ-loop
 sub-upper c = omega arith
 
@@ -60,6 +64,9 @@ mul-upper c = omega arith
 
 slice-write-upper : tie.Need-slice-write-upper Inv-loop μ-loop
 slice-write-upper c = omega arith
+
+received-second-requires : tie.Need-received-second-requires Inv-loop μ-loop
+received-second-requires c κs = search needs
 
 sub-upper-3 : tie.Need-sub-upper-3 Inv-loop μ-loop
 sub-upper-3 c = omega arith
@@ -74,7 +81,7 @@ slice-write-upper-2 : tie.Need-slice-write-upper-2 Inv-loop μ-loop
 slice-write-upper-2 c = simp length-set (omega arith)
 
 add-filled : tie.Need-add-filled Inv-loop μ-loop
-add-filled c = omega (arith, c .before .before .before .item .ensures .few)
+add-filled c = omega (arith, c .before .before .before .before .before .item .ensures .few)
 
 add-i : tie.Need-add-i Inv-loop μ-loop
 add-i c = omega arith
@@ -83,9 +90,10 @@ loop-less : tie.Need-loop-less Inv-loop μ-loop
 loop-less c = omega arith
 
 loop-again : tie.Need-loop-again Inv-loop μ-loop
-loop-again c = let done = c .before .before .before in
+loop-again c = let words = c .before in
+    let done = words .before .before .before .before in
     let turn = done .before .before .before .before in
-    moving-on (turn .before .loop .inv) (turn .loop-test .taken) (done .item .ensures)
+    moving-on (turn .before .loop .inv) (turn .loop-test .taken) (done .item .ensures) (words .before .received-word .ensures) (words .received-second .ensures)
 
 same-length : tie.Need-same-length Inv-loop μ-loop
 same-length c = c .before .loop .inv .sized ∙ sym (c .before .before .before .before .before .pre .0)
@@ -113,10 +121,12 @@ items-spec =
     mul-second
     shared-slice-read-second
     item-requires
+    received-word-requires
     sub-upper
     sub-upper-2
     mul-upper
     slice-write-upper
+    received-second-requires
     sub-upper-3
     sub-upper-4
     mul-upper-2

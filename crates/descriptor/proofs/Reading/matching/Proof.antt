@@ -1,5 +1,5 @@
 -- The arms tell the variants of both readings, and where both are ranges the test tells whether they are of one space.
-use mathlib.Core.Path.{_≡_}
+use mathlib.Core.Path.{_≡_, sym}
 use native.Mathlib.Omega.{arith}
 use borrow.Author.Needs.{needs}
 use Rattle.descriptor.specs.Descriptors.{matched}
@@ -13,23 +13,17 @@ enum-told c = search needs
 enum-told-2 : tie.Need-enum-told-2
 enum-told-2 c = search needs
 
+beside-malformed-requires : tie.Need-beside-malformed-requires
+beside-malformed-requires c κs = search needs
+
+enum-known-self : tie.Need-enum-known-self
+enum-known-self c = search needs
+
 enum-told-3 : tie.Need-enum-told-3
 enum-told-3 c = search needs
 
 enum-told-4 : tie.Need-enum-told-4
 enum-told-4 c = search needs
-
-enum-told-5 : tie.Need-enum-told-5
-enum-told-5 c = search needs
-
-enum-known-self : tie.Need-enum-known-self
-enum-known-self c = search needs
-
-enum-told-6 : tie.Need-enum-told-6
-enum-told-6 c = search needs
-
-enum-told-7 : tie.Need-enum-told-7
-enum-told-7 c = search needs
 
 enum-known-window : tie.Need-enum-known-window
 enum-known-window c = search needs
@@ -38,34 +32,25 @@ returns : tie.Need-returns
 returns c = rw (c .enum-told .given .1, matched-null)
 
 returns-2 : tie.Need-returns-2
-unfolding matched
-returns-2 c = rw (c .before .before .enum-told2 .given .1, c .enum-told3 .given .1)
+returns-2 c = rw (c .before .enum-told2 .given .1) (sym (c .beside-malformed .ensures))
 
 returns-3 : tie.Need-returns-3
 unfolding matched
-returns-3 c = rw (c .before .before .enum-told2 .given .1, c .enum-told4 .given .1)
+returns-3 c = rw (c .before .before .before .self .given .1, c .enum-told3 .given .1)
 
 returns-4 : tie.Need-returns-4
 unfolding matched
-returns-4 c = rw (c .before .before .enum-told2 .given .1, c .enum-told5 .given .1)
+returns-4 c = rw (c .before .before .before .self .given .1, c .enum-told4 .given .1)
 
 returns-5 : tie.Need-returns-5
-unfolding matched
-returns-5 c = rw (c .before .before .before .self .given .1, c .enum-told6 .given .1)
-
-returns-6 : tie.Need-returns-6
-unfolding matched
-returns-6 c = rw (c .before .before .before .self .given .1, c .enum-told7 .given .1)
-
-returns-7 : tie.Need-returns-7
-returns-7 c =
+returns-5 c =
     let item = c .before .before .before .before .before .before .before .self .given in
     let window = c .before .before .before .before .window .given in
     let same : item .0 .0 .space ≡ window .0 .0 .space = omega arith in
     rw (item .1, window .1, matched-both (item .0 .0) (window .0 .0) same)
 
-returns-8 : tie.Need-returns-8
-returns-8 c =
+returns-6 : tie.Need-returns-6
+returns-6 c =
     let item = c .before .before .before .before .before .before .before .self .given in
     let window = c .before .before .before .before .window .given in
     let apart : item .0 .0 .space ≡ window .0 .0 .space → ⊥ = omega arith in
@@ -77,18 +62,14 @@ matching-spec =
     (tie.spec
     enum-told
     enum-told-2
+    beside-malformed-requires
+    enum-known-self
     enum-told-3
     enum-told-4
-    enum-told-5
-    enum-known-self
-    enum-told-6
-    enum-told-7
     enum-known-window
     returns
     returns-2
     returns-3
     returns-4
     returns-5
-    returns-6
-    returns-7
-    returns-8)
+    returns-6)
