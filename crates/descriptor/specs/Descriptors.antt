@@ -101,6 +101,10 @@ pub record Proper (range : Range) : Type 0 where
   pub ends-inside : range .base + 2 ^ range .order ≤ selectors (range .space)
   pub mask-small : range .mask < 2 ^ 5
 
+-- what is read is a proper range, if it is one
+abbrev pub ReadProper : Reading → Type 0
+ReadProper read = (range : Range) → read ≡ Good range → Proper range
+
 -- The round trips: the fields of a word make that word again; a word made of fields has those fields; what is read from a range's descriptor is that range;
 -- and what a word is read as is a proper range, if it is one
 pub record RoundTrips : Type 0 where

@@ -9,6 +9,7 @@ use borrow.Author.Tests.{eq-eqb, ne-eqb}
 use Rattle.words.specs.Sizes.{object, selectors, placeOf}
 use Rattle.words.proofs.RangeLaws.{ends-inside}
 use Rattle.descriptor.specs.declared.Range.{Range}
+use Rattle.descriptor.specs.declared.Reading.{Reading}
 use Rattle.descriptor.specs.declared.Match.{Match}
 use Rattle.descriptor.specs.declared.Match.the-variants.{Both, Neither}
 use Rattle.descriptor.specs.declared.Received.{Received}
@@ -89,11 +90,11 @@ module _ (sender receiver second : ℕ) (item window : Range) {before after : Li
       }
 
 -- an item, by what its descriptors are read as
-module _ (table : List ℕ) (sender receiver descriptor second translating delegating : ℕ) where
+module _ (table : List ℕ) (sender receiver descriptor second : ℕ) (translating delegating : Reading) where
   abbrev the-item : Item
   the-item = itemBy (placesIn table) sender receiver descriptor second translating delegating
 
-  module _ {match : Match} (bit : second % 2 ≡ 1) (m : match ≡ matched (reading descriptor) (reading delegating)) where
+  module _ {match : Match} (bit : second % 2 ≡ 1) (m : match ≡ matched (reading descriptor) delegating) where
     is-delegated : the-item ≡ delegateItem (placesIn table) sender receiver second match
     is-delegated = rw (eq-eqb (delegateBit second) 1 (omega arith), m)
 
@@ -107,7 +108,7 @@ module _ (table : List ℕ) (sender receiver descriptor second translating deleg
         Done table after (delegateItem (placesIn table) sender receiver second (Both item window)) outcome → Done table after the-item outcome
     delegated-both e d = rw (is-delegated, e) d
 
-  module _ {match : Match} (bit : second % 2 ≡ 1 → ⊥) (m : match ≡ matched (reading descriptor) (reading translating)) where
+  module _ {match : Match} (bit : second % 2 ≡ 1 → ⊥) (m : match ≡ matched (reading descriptor) translating) where
     is-translated : the-item ≡ translateItem (placesIn table) sender receiver match
     is-translated = rw (ne-eqb (delegateBit second) 1 (λ e. bit (omega arith)), m)
 

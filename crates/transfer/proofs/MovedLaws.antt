@@ -11,7 +11,9 @@ use borrow.Rule.Slice.PartMut.{putMid, post-is}
 use Rattle.words.specs.Sizes.{object, selectors, domains, blockWords}
 use Rattle.interface.specs.Basics.{word}
 use Rattle.interface.specs.Places.{State, capAt, capTable, placesIn}
-use Rattle.interface.specs.RangeDescriptors.{whyNull}
+use Rattle.descriptor.specs.declared.Reading.{Reading}
+use Rattle.descriptor.proofs.DescriptorLaws.{good-proper}
+use Rattle.interface.specs.RangeDescriptors.{reading, whyNull}
 use Rattle.interface.specs.Effects.{run, filled}
 use Rattle.interface.specs.Message.{headWords, untypedCount, typedCount, translateWindow, delegateWindow, itemWords, descriptorAt, secondAt, receivedWord, receivedSecond, Item, Moved, itemOf, untypedCopied, carried, transfer}
 use Rattle.interface.proofs.Tables.TurnLaws.{run-append}
@@ -27,8 +29,8 @@ use Rattle.transfer.specs.Typed.{itemBy, Done}
 use Rattle.transfer.specs.Turns.{Ready, movedBy, Transferred}
 
 -- where the items stand: the table, the count and the upper words after those before the present one
-pub record Moving (start : List ℕ) (sender receiver : ℕ) (source upper₀ : List ℕ) (typed translating delegating : ℕ) (table upper : List ℕ) (count i : ℕ) : Type 0 where
-  pub ready : Ready sender receiver source upper₀ typed
+pub record Moving (start : List ℕ) (sender receiver : ℕ) (source upper₀ : List ℕ) (typed : ℕ) (translating delegating : Reading) (table upper : List ℕ) (count i : ℕ) : Type 0 where
+  pub ready : Ready sender receiver source upper₀ typed translating delegating
   pub sized : Sized table
   pub live-links : LiveLinks (capAt table)
   pub inside : i ≤ typed
@@ -38,8 +40,8 @@ pub record Moving (start : List ℕ) (sender receiver : ℕ) (source upper₀ : 
   pub fills : count ≡ movedBy (placesIn start) sender receiver source translating delegating upper₀ i .filled
   pub receives : upper ≡ movedBy (placesIn start) sender receiver source translating delegating upper₀ i .block
 
-pub moving-begins : {start : List ℕ} {sender receiver : ℕ} {source upper : List ℕ} {typed : ℕ} (translating delegating : ℕ) → Sized start → LiveLinks (capAt start) →
-    Ready sender receiver source upper typed → Moving start sender receiver source upper typed translating delegating start upper 0 0
+pub moving-begins : {start : List ℕ} {sender receiver : ℕ} {source upper : List ℕ} {typed : ℕ} (translating delegating : Reading) → Sized start → LiveLinks (capAt start) →
+    Ready sender receiver source upper typed translating delegating → Moving start sender receiver source upper typed translating delegating start upper 0 0
 unfolding movedBy run
 moving-begins translating delegating sized links ready =
     record {
@@ -54,7 +56,7 @@ moving-begins translating delegating sized links ready =
       receives = refl;
     }
 
-module _ {start : List ℕ} {sender receiver : ℕ} {source upper₀ : List ℕ} {typed translating delegating : ℕ} {table upper : List ℕ} {count i : ℕ}
+module _ {start : List ℕ} {sender receiver : ℕ} {source upper₀ : List ℕ} {typed : ℕ} {translating delegating : Reading} {table upper : List ℕ} {count i : ℕ}
     (g : Moving start sender receiver source upper₀ typed translating delegating table upper count i) where
   abbrev so-far : Moved
   so-far = movedBy (placesIn start) sender receiver source translating delegating upper₀ i
@@ -112,7 +114,7 @@ module _ (s : State) (sender receiver : ℕ) (source target : List ℕ) (below :
   copied = untypedCopied source target
 
   abbrev moved : ℕ → Moved
-  moved n = movedBy s sender receiver source (word target translateWindow) (word target delegateWindow) (drop below copied) n
+  moved n = movedBy s sender receiver source (reading (word target translateWindow)) (reading (word target delegateWindow)) (drop below copied) n
 
   abbrev whole : ℕ → Moved
   whole n = record { effects = moved n .effects; filled = moved n .filled; block = take below copied ++ moved n .block }
@@ -163,9 +165,10 @@ module _ {source target block : List ℕ} {untyped typed : ℕ} (b : Blocks sour
   uppers : take (length block - low) (drop low block) ≡ drop low block
   uppers = take-all (length block - low) (drop low block) (rw (length-drop low block) (le-refl (length block - low)))
 
-  pub items-ready : {sender receiver : ℕ} → sender < domains → receiver < domains →
-      Ready sender receiver source (take (length block - low) (drop low block)) typed
-  items-ready s r =
+  pub items-ready : {sender receiver : ℕ} {translating delegating : Reading} → sender < domains → receiver < domains →
+      translating ≡ reading (word target translateWindow) → delegating ≡ reading (word target delegateWindow) →
+      Ready sender receiver source (take (length block - low) (drop low block)) typed translating delegating
+  items-ready s r is-translating is-delegating =
       let many : length (drop low block) ≡ blockWords - low = rw (length-drop low block, block-full) in
       record {
         sender-small = s;
@@ -173,18 +176,21 @@ module _ {source target block : List ℕ} {untyped typed : ℕ} (b : Blocks sour
         source-length = b .source-length;
         room = rw (uppers, many) (omega (arith, counts));
         upper-length = rw (uppers, many) (omega arith);
+        translating-proper = λ range e. good-proper (word target translateWindow) range (sym is-translating ∙ e);
+        delegating-proper = λ range e. good-proper (word target delegateWindow) range (sym is-delegating ∙ e);
       }
 
   none-after : drop (length block - low) (drop low block) ≡ []
   none-after = post-is low (length block) block upper-begins ∙ drop-length block
 
   -- the items' transfer is the message's
-  pub message-done : (sender receiver : ℕ) {before after upper : List ℕ} {count : ℕ} →
+  pub message-done : (sender receiver : ℕ) {translating delegating : Reading} {before after upper : List ℕ} {count : ℕ} →
+      translating ≡ reading (word target translateWindow) → delegating ≡ reading (word target delegateWindow) →
       Transferred before after upper
-      (movedBy (placesIn before) sender receiver source (word target translateWindow) (word target delegateWindow) (take (length block - low) (drop low block)) typed) count →
+      (movedBy (placesIn before) sender receiver source translating delegating (take (length block - low) (drop low block)) typed) count →
       Transferred before after (putMid low (length block - low) block upper) (transfer (placesIn before) sender receiver source target) count
-  message-done sender receiver {before} {after} {upper} {count} done =
-      let there = rw (uppers, is-block) at done in
+  message-done sender receiver {before = before} is-translating is-delegating done =
+      let there = rw (is-translating, is-delegating, uppers, is-block) at done in
       let is-whole = carried-moved (placesIn before) sender receiver source target low copied-full (omega (arith, counts)) typed counts in
       rw (sym t, is-whole)
       (record {

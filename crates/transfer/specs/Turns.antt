@@ -4,6 +4,8 @@ use mathlib.Core.Path.{_≡_}
 use mathlib.Core.List.{List, [], _++_}
 use lib.ListN.{length, set}
 use Rattle.words.specs.Sizes.{domains, blockWords}
+use Rattle.descriptor.specs.declared.Reading.{Reading}
+use Rattle.descriptor.specs.Descriptors.{ReadProper}
 use Rattle.interface.specs.Basics.{word}
 use Rattle.interface.specs.Places.{State, capAt, capTable, placesIn}
 use Rattle.interface.specs.RangeDescriptors.{whyNull}
@@ -12,16 +14,18 @@ use Rattle.interface.specs.Message.{payloadWords, itemWords, descriptorAt, seco
 use Rattle.delegation.specs.Delegating.{LiveLinks}
 use Rattle.transfer.specs.Typed.{itemBy}
 
--- what the items need of the blocks and the domains
-pub record Ready (sender receiver : ℕ) (source upper : List ℕ) (typed : ℕ) : Type 0 where
+-- what the items need of the blocks, the windows and the domains
+pub record Ready (sender receiver : ℕ) (source upper : List ℕ) (typed : ℕ) (translating delegating : Reading) : Type 0 where
   pub sender-small : sender < domains
   pub receiver-small : receiver < domains
   pub source-length : length source ≡ blockWords
   pub room : itemWords * typed ≤ length upper
   pub upper-length : length upper ≤ payloadWords
+  pub translating-proper : ReadProper translating
+  pub delegating-proper : ReadProper delegating
 
 -- what they come to: each is on the tables that those before it left, and its words are received from the upper words' end downward
-unfoldable pub movedBy : State → ℕ → ℕ → List ℕ → ℕ → ℕ → List ℕ → ℕ → Moved
+unfoldable pub movedBy : State → ℕ → ℕ → List ℕ → Reading → Reading → List ℕ → ℕ → Moved
 movedBy s sender receiver source translating delegating upper zero = record { effects = []; filled = 0; block = upper }
 movedBy s sender receiver source translating delegating upper (suc i) =
     let before = movedBy s sender receiver source translating delegating upper i in

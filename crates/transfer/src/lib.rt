@@ -5,7 +5,7 @@ ghost use Rattle.words.specs.Sizes.{domains};
 ghost use Rattle.descriptor.specs.declared.Range.{Range};
 ghost use Rattle.descriptor.specs.declared.Match.the-variants.{Both};
 ghost use Rattle.descriptor.specs.declared.Received.the-variants.{NullItem, Shows};
-ghost use Rattle.descriptor.specs.Descriptors.{whyNull, Proper};
+ghost use Rattle.descriptor.specs.Descriptors.{whyNull, Proper, ReadProper};
 ghost use Rattle.interface.specs.Places.{capAt, placesIn};
 ghost use Rattle.interface.specs.Message.{receivedWord, receivedSecond, sourceDomain, delegateItem, transfer};
 ghost use Rattle.places.specs.Table.{Sized};
@@ -18,6 +18,7 @@ ghost use Rattle.transfer.specs.Turns.{Ready, movedBy, Transferred};
 use descriptor::Descriptor;
 use descriptor::Match;
 use descriptor::Range;
+use descriptor::Reading;
 use descriptor::Reason;
 use descriptor::Received;
 use interface::block;
@@ -106,10 +107,11 @@ fn item(
     receiver: u32,
     descriptor: u32,
     second: u32,
-    translating: u32,
-    delegating: u32,
+    translating: Reading,
+    delegating: Reading,
 ) -> Outcome
-    requires { ⌜ Sized (now table) × Linked (capAt (now table)) × (sender < domains) × (receiver < domains) ⌝ }
+    requires { ⌜
+        Sized (now table) × Linked (capAt (now table)) × (sender < domains) × (receiver < domains) × ReadProper translating × ReadProper delegating ⌝ }
     ensures { λ r. ⌜ Done (now (table .entry)) (now (table .exit)) (itemBy (placesIn (now (table .entry))) sender receiver descriptor second translating delegating) r ⌝ }
 {
     if second % 2 == 1 {
@@ -142,10 +144,10 @@ fn items(
     source: &[u32],
     upper: &mut [u32],
     typed: usize,
-    translating: u32,
-    delegating: u32,
+    translating: Reading,
+    delegating: Reading,
 ) -> u32
-    requires { ⌜ Sized (now table) × LiveLinks (capAt (now table)) × Ready sender receiver (now source) (now upper) typed ⌝ }
+    requires { ⌜ Sized (now table) × LiveLinks (capAt (now table)) × Ready sender receiver (now source) (now upper) typed translating delegating ⌝ }
     ensures { λ r. ⌜
         Transferred (now (table .entry)) (now (table .exit)) (now (upper .exit))
         (movedBy (placesIn (now (table .entry))) sender receiver (now (source .entry)) translating delegating (now (upper .entry)) typed) r ⌝ }
@@ -189,8 +191,8 @@ pub fn message(
         (transfer (placesIn (now (table .entry))) sender receiver (now (source .entry)) (now (target .entry))) r ⌝ }
 {
     let word0 = source[0];
-    let translating = target[block::TRANSLATE_WINDOW];
-    let delegating = target[block::DELEGATE_WINDOW];
+    let translating = windows::read(target[block::TRANSLATE_WINDOW]);
+    let delegating = windows::read(target[block::DELEGATE_WINDOW]);
     blocks::copy_untyped(source, target);
     let above = blocks::HEAD_WORDS + (blocks::untyped_count(word0) as usize);
     let typed = blocks::typed_count(word0) as usize;

@@ -11,24 +11,18 @@ use Rattle.descriptor.specs.declared.Range.{Range}
 use Rattle.descriptor.specs.declared.Reading.{Reading}
 use Rattle.descriptor.specs.declared.Match.{Match}
 use Rattle.descriptor.specs.declared.Match.the-variants.{Both}
-use Rattle.descriptor.specs.Descriptors.{kept, Proper}
-use Rattle.descriptor.proofs.DescriptorLaws.{reading-kept, matched-good, good-proper}
+use Rattle.descriptor.specs.Descriptors.{Proper, ReadProper}
+use Rattle.descriptor.proofs.DescriptorLaws.{matched-good, good-proper}
 use Rattle.interface.specs.RangeDescriptors.{reading, matched}
 use Rattle.interface.specs.Message.{smallerOrder}
 use Rattle.windows.specs.Matching.{Matched, destinationOf}
 
--- two descriptors that are read as they were kept
-pub is-match : (descriptor window : ℕ) {item-kept window-kept : ℕ} {item-read window-read : Reading} {match : Match} → item-kept ≡ kept descriptor →
-    item-read ≡ reading item-kept → window-kept ≡ kept window → window-read ≡ reading window-kept → match ≡ matched item-read window-read →
-    match ≡ matched (reading descriptor) (reading window)
-is-match descriptor window ik ir wk wr m = m ∙ rw (ir, wr, ik, wk, reading-kept descriptor, reading-kept window)
-
 -- what is matched are proper ranges of one space
-pub is-matched : (descriptor word : ℕ) {match : Match} (item window : Range) → match ≡ matched (reading descriptor) (reading word) → match ≡ Both item window →
-    Matched item window
-is-matched descriptor word item window m e =
-    let good = matched-good (reading descriptor) (reading word) item window (sym m ∙ e) in
-    record { item-proper = good-proper descriptor item (good .0); window-proper = good-proper word window (good .1); same-space = good .2 }
+pub is-matched : (descriptor : ℕ) (read : Reading) {match : Match} (item window : Range) → ReadProper read → match ≡ matched (reading descriptor) read →
+    match ≡ Both item window → Matched item window
+is-matched descriptor read item window proper m e =
+    let good = matched-good (reading descriptor) read item window (sym m ∙ e) in
+    record { item-proper = good-proper descriptor item (good .0); window-proper = proper window (good .1); same-space = good .2 }
 
 -- the number of a place that is made of a domain, a space and a selector is below the number of places
 pub made-small : (domain space selector place : ℕ) → domain < domains → space < spaces → selector < selectors space → place ≡ placeOf domain space selector →

@@ -1,4 +1,4 @@
-// A typed item's range and its window: matching their words, the part of them around the hotspot, and the word of a range.
+// A typed item's range and its window: reading and matching them, the part of them around the hotspot, and the word of a range.
 ghost use Prim.Native.Nat.{_+_, _%_, _^_, _<_, _≤_, min};
 ghost use mathlib.Core.Path.{_≡_};
 ghost use Rattle.words.specs.Ranges.{rounded};
@@ -7,6 +7,7 @@ ghost use Rattle.windows.specs.Matching.{Matched, destinationOf};
 use descriptor::Descriptor;
 use descriptor::Match;
 use descriptor::Range;
+use descriptor::Reading;
 use words::ranges;
 
 // The smaller of two orders.
@@ -46,11 +47,16 @@ pub fn word_of(range: Range) -> u32
     Descriptor::of(range.space(), range.at(0), range.order(), range.mask()).word()
 }
 
-// An item's range with its window, by the words of their descriptors.
-pub fn matching(descriptor: u32, window: u32) -> Match
-    ensures { λ r. ⌜ r ≡ matched (reading descriptor) (reading window) ⌝ }
+// What the word of a descriptor says.
+pub fn read(word: u32) -> Reading
+    ensures { λ r. ⌜ r ≡ reading word ⌝ }
 {
-    Descriptor::from_word(descriptor)
-        .read()
-        .matching(Descriptor::from_word(window).read())
+    Descriptor::from_word(word).read()
+}
+
+// An item's range with its window, by the word of the item's descriptor and what the window says.
+pub fn matching(descriptor: u32, window: Reading) -> Match
+    ensures { λ r. ⌜ r ≡ matched (reading descriptor) window ⌝ }
+{
+    read(descriptor).matching(window)
 }

@@ -13,7 +13,7 @@ use Rattle.words.proofs.BitLaws.{within-le, delegated-respects, revoked-kept}
 use Rattle.descriptor.specs.declared.Range.{Range}
 use Rattle.descriptor.specs.declared.Reading.{Reading}
 use Rattle.descriptor.specs.declared.Reading.the-variants.{Null, Malformed, Good}
-use Rattle.descriptor.specs.Descriptors.{Proper}
+use Rattle.descriptor.specs.Descriptors.{Proper, ReadProper}
 use Rattle.descriptor.proofs.DescriptorLaws.{good-proper, proper-space}
 use Rattle.reply.specs.declared.Reply.the-variants.{Success, BadPar}
 use Rattle.interface.specs.Places.{Cap, State, Tables, live, nothing, shown, greatestIn}
@@ -29,7 +29,6 @@ use Rattle.interface.proofs.Sound.Soundness.{Sound, sound-facts}
 use Rattle.interface.proofs.Sound.PlaceFacts.{null-cap, parent-child}
 use Rattle.interface.proofs.Sound.GreatestLaws.{permissions-within}
 use Rattle.interface.proofs.Sound.CutSound.{below-space, reached, cut-kept, cut-stripped}
-use Rattle.interface.proofs.Sound.MessageFits.{ReadProper}
 use Rattle.interface.proofs.History.CutLaws.{cut-nothing}
 use Rattle.interface.proofs.Refusals.MaskRefusals.{fields-outside}
 use Rattle.interface.proofs.Tables.TableLaws.{cap-at-end, places-long, sound-sized, sound-shown, state-same}

@@ -16,7 +16,7 @@ use Rattle.descriptor.specs.declared.Match.{Match}
 use Rattle.descriptor.specs.declared.Match.the-variants.{Both, Neither}
 use Rattle.reply.specs.declared.Reply.{Reply}
 use Rattle.descriptor.specs.declared.Reason.the-variants.{TypesDiffer}
-use Rattle.descriptor.specs.Descriptors.{Proper}
+use Rattle.descriptor.specs.Descriptors.{Proper, ReadProper}
 use Rattle.descriptor.proofs.DescriptorLaws.{good-proper}
 use Rattle.interface.specs.Basics.{word, if_then_else_}
 use Rattle.interface.specs.Places.{State, PT, ecWord, domainWord, callBit, objectPlace, permitted, objectIn}
@@ -32,10 +32,6 @@ use Rattle.interface.proofs.Sound.Soundness.{Sound}
 use Rattle.interface.proofs.Tables.Steps.{FitInTurn}
 use Rattle.interface.proofs.Tables.TurnLaws.{require-so, same-home, give-fits, PlaceSteps, place-steps-none, place-steps-append, gives-fit}
 use Rattle.interface.proofs.Sound.SoundFacts.{own-record, permitted-kind, portal-ec, home, ec-home}
-
--- what is read is a proper range, if it is one
-abbrev pub ReadProper : Reading → Type 0
-ReadProper read = (range : Range) → read ≡ Good range → Proper range
 
 -- a matched item and its window are proper ranges of one space
 abbrev pub MatchProper : Match → Type 0

@@ -24,7 +24,7 @@ delegate-item-requires c κs = let found = c .before .before .before .before in
       start .pre .0,
       start .pre .2,
       start .pre .3,
-      is-matched (start .args .descriptor) (start .args .delegating) _ _ (found .matching .ensures) (c .before .before .range .given .1),
+      is-matched (start .args .descriptor) (start .args .delegating) _ _ (start .pre .5) (found .matching .ensures) (c .before .before .range .given .1),
     )
 
 returns : tie.Need-returns
@@ -65,7 +65,7 @@ translate-requires c κs = let found = c .before .before .before .before in
       start .pre .1,
       start .pre .2,
       start .pre .3,
-      is-matched (start .args .descriptor) (start .args .translating) _ _ (found .matching2 .ensures) (c .before .before .range2 .given .1),
+      is-matched (start .args .descriptor) (start .args .translating) _ _ (start .pre .4) (found .matching2 .ensures) (c .before .before .range2 .given .1),
     )
 
 returns-3 : tie.Need-returns-3
@@ -86,7 +86,7 @@ returns-4 c = let ranges = c .before .before .before in
     let a = start .args in
     translated-both (now (a .table)) (a .sender) (a .receiver) (a .descriptor) (a .second) (a .translating) (a .delegating) (found .before .if1 .left)
     (found .matching2 .ensures) (ranges .range2 .given .1)
-    (is-matched (a .descriptor) (a .translating) _ _ (found .matching2 .ensures) (ranges .range2 .given .1)) (c .translate .ensures) (start .pre .0)
+    (is-matched (a .descriptor) (a .translating) _ _ (start .pre .4) (found .matching2 .ensures) (ranges .range2 .given .1)) (c .translate .ensures) (start .pre .0)
 
 pub item-spec : {M : Type 1} → statement M
 item-spec =

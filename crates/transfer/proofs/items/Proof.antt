@@ -48,7 +48,7 @@ shared-slice-read-second c = omega arith
 
 item-requires : tie.Need-item-requires Inv-loop μ-loop
 item-requires c κs = let g = c .before .before .before .before .loop .inv in
-    (g .sized, g .live-links .linked, g .ready .sender-small, g .ready .receiver-small)
+    (g .sized, g .live-links .linked, g .ready .sender-small, g .ready .receiver-small, g .ready .translating-proper, g .ready .delegating-proper)
 
 received-word-requires : tie.Need-received-word-requires Inv-loop μ-loop
 received-word-requires c κs = c .before .before .item .ensures .proper
