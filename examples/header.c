@@ -128,7 +128,7 @@ static void hypercalls(void) {
     HOLDS(same(reply, generally(RUDOZHEV_CALL, 38, 0, 0, 0, 0, 0), 0) && rudozhev_answer(reply) == 8);
     HOLDS(target.words[RUDOZHEV_HEADER_WORDS] == 1895);
     const struct rudozhev_item item = rudozhev_received(&target, 0);
-    HOLDS(item.delegates && item.range == rudozhev_range(RUDOZHEV_IO, 8, 3, 1) && item.reason == RUDOZHEV_NOT_NULL);
+    HOLDS(item.delegates && item.range == rudozhev_range(RUDOZHEV_IO, 8, 3, 1) && item.reason == RUDOZHEV_REASON_NONE);
 
     const uint32_t one = rudozhev_range(RUDOZHEV_IO, 9, 0, RUDOZHEV_FULL_MASK);
     reply = rudozhev_lookup(&tables, CALLER, one);
@@ -161,28 +161,49 @@ static void reasons(void) {
     const uint32_t delegate = rudozhev_delegation(0, true), translate = RUDOZHEV_TRANSLATION;
     for (int kind = 0; kind < 2; kind++) {
         const uint32_t second = kind == 1 ? delegate : translate;
-        HOLDS(null_for(sent(RUDOZHEV_NULL, second, window), kind == 1, RUDOZHEV_NULL_DESCRIPTOR));
-        HOLDS(null_for(sent(pages, second, RUDOZHEV_NULL), kind == 1, RUDOZHEV_NULL_DESCRIPTOR));
-        HOLDS(null_for(sent(malformed, second, RUDOZHEV_NULL), kind == 1, RUDOZHEV_NULL_DESCRIPTOR));
-        HOLDS(null_for(sent(RUDOZHEV_NULL, second, malformed), kind == 1, RUDOZHEV_NULL_DESCRIPTOR));
-        HOLDS(null_for(sent(malformed, second, window), kind == 1, RUDOZHEV_MALFORMED_DESCRIPTOR));
-        HOLDS(null_for(sent(pages, second, malformed), kind == 1, RUDOZHEV_MALFORMED_DESCRIPTOR));
-        HOLDS(null_for(sent(malformed, second, objects), kind == 1, RUDOZHEV_MALFORMED_DESCRIPTOR));
-        HOLDS(null_for(sent(pages, second, objects), kind == 1, RUDOZHEV_TYPES_DIFFER));
+        HOLDS(null_for(sent(RUDOZHEV_NULL, second, window), kind == 1, RUDOZHEV_REASON_NULL));
+        HOLDS(null_for(sent(pages, second, RUDOZHEV_NULL), kind == 1, RUDOZHEV_REASON_NULL));
+        HOLDS(null_for(sent(malformed, second, RUDOZHEV_NULL), kind == 1, RUDOZHEV_REASON_NULL));
+        HOLDS(null_for(sent(RUDOZHEV_NULL, second, malformed), kind == 1, RUDOZHEV_REASON_NULL));
+        HOLDS(null_for(sent(malformed, second, window), kind == 1, RUDOZHEV_REASON_MALFORMED));
+        HOLDS(null_for(sent(pages, second, malformed), kind == 1, RUDOZHEV_REASON_MALFORMED));
+        HOLDS(null_for(sent(malformed, second, objects), kind == 1, RUDOZHEV_REASON_MALFORMED));
+        HOLDS(null_for(sent(pages, second, objects), kind == 1, RUDOZHEV_REASON_TYPES_DIFFER));
     }
     const uint32_t mask_0 = rudozhev_range(RUDOZHEV_MEMORY, 0, 3, 0);
-    HOLDS(null_for(sent(mask_0, delegate, window), true, RUDOZHEV_NOTHING_FILLED));
-    HOLDS(null_for(sent(pages, translate, window), false, RUDOZHEV_TRANSLATION_BROKE));
-    HOLDS(null_for(sent(pages, translate | 14, window), false, RUDOZHEV_TRANSLATION_BROKE));
+    HOLDS(null_for(sent(mask_0, delegate, window), true, RUDOZHEV_REASON_NOTHING_FILLED));
+    HOLDS(null_for(sent(pages, translate, window), false, RUDOZHEV_REASON_TRANSLATION_BROKE));
+    HOLDS(null_for(sent(pages, translate | 14, window), false, RUDOZHEV_REASON_TRANSLATION_BROKE));
 
-    HOLDS(null_for(rudozhev_received(&target, 1), false, RUDOZHEV_NO_ITEM));
-    HOLDS(null_for(rudozhev_received(&target, UINT32_MAX), false, RUDOZHEV_NO_ITEM));
+    /* The manual's message of three items. */
+    const uint32_t items[] = {29, delegate, 4125, delegate, 32893, translate};
+    source.words[0] = rudozhev_counts(0, 3);
+    for (uint32_t word = 0; word < 6; word++) {
+        source.words[RUDOZHEV_BLOCK_WORDS - 1 - word] = items[word];
+    }
+    target.words[RUDOZHEV_TRANSLATE_WINDOW] = 769;
+    target.words[RUDOZHEV_DELEGATE_WINDOW] = 32769;
+    HOLDS(rudozhev_call(&tables, RUDOZHEV_ROOT_EC, 38, &source, &target) == 1);
+    const struct rudozhev_item first = rudozhev_received(&target, 0);
+    HOLDS(first.delegates && first.range == 32797 && first.reason == RUDOZHEV_REASON_NONE);
+    HOLDS(null_for(rudozhev_received(&target, 1), true, RUDOZHEV_REASON_NOTHING_FILLED));
+    HOLDS(null_for(rudozhev_received(&target, 2), false, RUDOZHEV_REASON_TRANSLATION_BROKE));
+    HOLDS(null_for(rudozhev_received(&target, 3), false, RUDOZHEV_REASON_NO_ITEM));
+
+    /* Blocks that are full, and counts that do not fit. */
+    target.words[0] = 1 << 16 | 58;
+    HOLDS(rudozhev_received(&target, 0).range == 32797);
+    target.words[0] = 30 << 16;
+    target.words[RUDOZHEV_HEADER_WORDS] = 2;
+    HOLDS(null_for(rudozhev_received(&target, 29), false, RUDOZHEV_REASON_NULL));
+    HOLDS(null_for(rudozhev_received(&target, 30), false, RUDOZHEV_REASON_NO_ITEM));
+    HOLDS(null_for(rudozhev_received(&target, UINT32_MAX), false, RUDOZHEV_REASON_NO_ITEM));
     target.words[0] = 31 << 16;
-    HOLDS(null_for(rudozhev_received(&target, 0), false, RUDOZHEV_NO_ITEM));
+    HOLDS(null_for(rudozhev_received(&target, 0), false, RUDOZHEV_REASON_NO_ITEM));
     target.words[0] = 1 << 16 | 59;
-    HOLDS(null_for(rudozhev_received(&target, 0), false, RUDOZHEV_NO_ITEM));
+    HOLDS(null_for(rudozhev_received(&target, 0), false, RUDOZHEV_REASON_NO_ITEM));
     target.words[0] = UINT32_MAX;
-    HOLDS(null_for(rudozhev_received(&target, 0), false, RUDOZHEV_NO_ITEM));
+    HOLDS(null_for(rudozhev_received(&target, 0), false, RUDOZHEV_REASON_NO_ITEM));
 }
 
 /* What does not fit is refused. */

@@ -37,19 +37,19 @@ static uint32_t lend(uint32_t portal, uint32_t range, uint32_t second, uint32_t 
 /* What the receiver is told of the item. */
 static const char *told(void) {
     switch (rudozhev_received(&target, 0).reason) {
-    case RUDOZHEV_NOT_NULL:
+    case RUDOZHEV_REASON_NONE:
         return "received";
-    case RUDOZHEV_NULL_DESCRIPTOR:
+    case RUDOZHEV_REASON_NULL:
         return "null: there is no range or no window";
-    case RUDOZHEV_MALFORMED_DESCRIPTOR:
+    case RUDOZHEV_REASON_MALFORMED:
         return "null: the range or the window is malformed";
-    case RUDOZHEV_TYPES_DIFFER:
+    case RUDOZHEV_REASON_TYPES_DIFFER:
         return "null: range and window are of different spaces";
-    case RUDOZHEV_NOTHING_FILLED:
+    case RUDOZHEV_REASON_NOTHING_FILLED:
         return "null: nothing was filled";
-    case RUDOZHEV_TRANSLATION_BROKE:
+    case RUDOZHEV_REASON_TRANSLATION_BROKE:
         return "null: the range did not come from the receiver's window";
-    case RUDOZHEV_NO_ITEM:
+    case RUDOZHEV_REASON_NO_ITEM:
         return "not there";
     }
     return "null, for a reason that is not known";

@@ -262,27 +262,27 @@ struct rudozhev_block {
 
 /* Why a received item is null. Where several reasons apply, it is the one of least number. */
 enum rudozhev_reason {
-    RUDOZHEV_NOT_NULL = 0,
-    RUDOZHEV_NULL_DESCRIPTOR = 1,      /* the item's descriptor is null, or its window */
-    RUDOZHEV_MALFORMED_DESCRIPTOR = 2, /* the item's descriptor is malformed, or its window */
-    RUDOZHEV_TYPES_DIFFER = 3,         /* they are of different spaces */
-    RUDOZHEV_NOTHING_FILLED = 4,       /* the delegation filled no place */
-    RUDOZHEV_TRANSLATION_BROKE = 5,    /* the range did not come from one range inside the window */
-    RUDOZHEV_NO_ITEM = 8               /* the message has no such item */
+    RUDOZHEV_REASON_NONE = 0,              /* it is not null */
+    RUDOZHEV_REASON_NULL = 1,              /* the item's descriptor is null, or its window */
+    RUDOZHEV_REASON_MALFORMED = 2,         /* the item's descriptor is malformed, or its window */
+    RUDOZHEV_REASON_TYPES_DIFFER = 3,      /* they are of different spaces */
+    RUDOZHEV_REASON_NOTHING_FILLED = 4,    /* the delegation filled no place */
+    RUDOZHEV_REASON_TRANSLATION_BROKE = 5, /* the range did not come from one range inside the window */
+    RUDOZHEV_REASON_NO_ITEM = 8            /* the message has no such item */
 };
 
-/* A typed item as it is received. */
+/* A typed item as it is received. Words that no CALL has written may have the reasons 6 and 7. */
 struct rudozhev_item {
     bool delegates;              /* or else it translates */
     uint32_t range;              /* the descriptor of what was filled or translated, or RUDOZHEV_NULL */
-    enum rudozhev_reason reason; /* why it is RUDOZHEV_NULL */
+    enum rudozhev_reason reason; /* why it is RUDOZHEV_NULL, or RUDOZHEV_REASON_NONE */
 };
 
 /* Reads an item of a received message; the first is item 0. There is none where the
  * message has fewer, or where its counts do not fit a block. */
 RUDOZHEV_ANSWERS static inline struct rudozhev_item rudozhev_received(const struct rudozhev_block *block,
                                                                       uint32_t item) {
-    struct rudozhev_item received = {false, RUDOZHEV_NULL, RUDOZHEV_NO_ITEM};
+    struct rudozhev_item received = {false, RUDOZHEV_NULL, RUDOZHEV_REASON_NO_ITEM};
     const uint32_t untyped = block->words[0] & 0xffff, typed = block->words[0] >> 16;
     if (untyped + RUDOZHEV_ITEM_WORDS * typed <= RUDOZHEV_DATA_WORDS && item < typed) {
         const uint32_t second = block->words[RUDOZHEV_BLOCK_WORDS - 2 - RUDOZHEV_ITEM_WORDS * item];

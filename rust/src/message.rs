@@ -270,7 +270,8 @@ mod tests {
         assert_eq!(block, Block::new());
         assert_eq!(block.set_message(&[1; 60], &[]), Ok(()));
         assert_eq!(block.set_message(&[], &[item; 30]), Ok(()));
-        assert_eq!(block.received().count(), 30);
+        let unsent = Received::NotTranslated(Reason::Unknown(0));
+        assert!(block.received().eq([unsent; 30]));
     }
 
     #[test]

@@ -29,12 +29,13 @@ fn grown(seed: u64) -> Words {
 #[test]
 fn journals_agree() -> Result<(), Difference> {
     let mut all = Comparison::new(1);
+    let seeds = 100..112;
     for kind in Kind::ALL {
-        for seed in 100..112 {
+        for seed in seeds.clone() {
             all.journal(&journal(kind, seed, 300))?;
         }
     }
-    assert!(all.hypercalls >= 84 * 300);
+    assert!(all.hypercalls as usize >= Kind::ALL.len() * seeds.count() * 300);
     for status in [0, 1, 4, 5, 7, 16, 18] {
         assert!(all.statuses.keys().any(|&(_, seen)| seen == status), "status {status}");
     }
@@ -80,7 +81,7 @@ fn damage_agrees_and_refuses_every_call() -> Result<(), Difference> {
 fn damage_agrees_at_every_bound_of_every_record() -> Result<(), Difference> {
     const BOUNDS: [u32; 12] = [0, 1, 2, 4, 6, 8, 28, 32, 64, 256, 1 << 20, u32::MAX];
     let mut all = Comparison::new(7);
-    for seed in 0..21 {
+    for seed in 0..24 {
         let mut tables = grown(seed);
         for word in 0..tables.objects.len() {
             let right = tables.objects[word];

@@ -105,6 +105,10 @@ pub record Proper (range : Range) : Type 0 where
 abbrev pub ReadProper : Reading → Type 0
 ReadProper read = (range : Range) → read ≡ Good range → Proper range
 
+-- what an item shows is a proper range, if it shows one
+abbrev pub ShownProper : Received → Type 0
+ShownProper received = (range : Range) → received ≡ Shows range → Proper range
+
 -- The round trips: the fields of a word make that word again; a word made of fields has those fields; what is read from a range's descriptor is that range;
 -- and what a word is read as is a proper range, if it is one
 pub record RoundTrips : Type 0 where

@@ -1,4 +1,4 @@
-// The range descriptor: a range of selectors of a space with a mask, its word, reading a word, and matching an item's range with its window.
+// The range descriptor: a range of selectors of a space with a mask, its word, reading a word, matching an item's range with its window, and why an item is null.
 ghost use mathlib.Core.Path.{_≡_};
 ghost use Prim.Native.Nat.{_+_, _^_, _<_};
 ghost use Rattle.words.specs.Sizes.{selectors};

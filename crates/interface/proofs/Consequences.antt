@@ -5,4 +5,4 @@ pub mod FilledLaws
 pub mod RevokedLaws
 pub mod CreatedLaws
 pub mod DamageReportLaws
-pub mod UnchangedLaws
+pub mod WithoutReasonsLaws

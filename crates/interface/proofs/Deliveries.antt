@@ -1,4 +1,4 @@
--- What a message and an initial range move, and what a translation shows.
+-- What a message and an initial range move, why an item is null, and what a translation shows.
 pub mod DelegationLaws
 pub mod TransferLaws
 pub mod DeliveryLaws

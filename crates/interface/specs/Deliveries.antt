@@ -170,7 +170,7 @@ pub record TranslateShown (s : State) (c : Call) (item shown : ℕ) : Type 0 whe
 abbrev pub windowWord : Call → ℕ → ℕ
 windowWord c item = word (c .target) (if eqb (bits 0 0 (secondWord c item)) 1 then 2 else 1)
 
--- the cause of each reason why an item is null. Several may hold at once: the last two hold of every item of their kind that has no range or no window, and then a lower one does
+-- the cause of each reason why an item is null. Several may hold at once: where one of the first three holds, so does the one of the item's kind among the last two
 abbrev pub Cause : State → Call → ℕ → Reason → Type 0
 -- a null descriptor: the item's type is 0, or its window's
 Cause s c item NullDescriptor = (bits 0 1 (firstWord c item) ≡ 0) ⊎ (bits 0 1 (windowWord c item) ≡ 0)

@@ -25,6 +25,6 @@ pub mod Created
 pub mod DamageReport
 pub mod Translations
 pub mod Deliveries
-pub mod Reasons
+pub mod WithoutReasons
 pub mod Examples
 pub mod SmallCases

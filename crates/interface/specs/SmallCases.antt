@@ -1,4 +1,5 @@
--- Small cases worked by hand, for the definitions that the worked examples do not reach: the history, steps, translation, why an item is null, and the damage report.
+-- Small cases worked by hand, for the definitions that the worked examples do not reach: the history, steps, translation, why an item is null (the manual has these cases as its last
+-- example), and the damage report.
 use Prim.Native.Nat.{ℕ, _+_, _-_}
 use mathlib.Core.Path.{_≡_}
 use mathlib.Core.Bool.{Bool, true, false, _&&_}

@@ -3,7 +3,7 @@ ghost use Rattle.interface.specs.Consequences.{StaysSound, DamagedExactly, Refu
 ghost use Rattle.interface.specs.Refusals.{CallRefusedExactly, CreationsRefusedExactly, SmCtrlRefusedExactly, LookupRefusedExactly, RevokeRefusedExactly, CensusRefusedExactly, DispatchRefusedExactly, MalformedExactly};
 ghost use Rattle.interface.specs.Created.{CreatedExactly};
 ghost use Rattle.interface.specs.Deliveries.{DeliversItems, DeliversWords, DeliversRange};
-ghost use Rattle.interface.specs.Reasons.{NothingElseChanges};
+ghost use Rattle.interface.specs.WithoutReasons.{NothingElseChanges};
 ghost use Rattle.interface.specs.Translations.{TranslatesExactly};
 ghost use Rattle.interface.specs.DamageReport.{DamageNamed};
 ghost use Rattle.interface.specs.Demand.{LastRevokeExists, Demand3};
@@ -158,7 +158,7 @@ pub fn message_example()
     ensures { λ r. ⌜ MessageExample ⌝ }
 {}
 
-// Each small case of the history, of translation and of the damage report follows from the definitions.
+// Each small case of the history, of translation, of why an item is null and of the damage report follows from the definitions.
 pub fn small_cases()
     ensures { λ r. ⌜ SmallCases ⌝ }
 {}

@@ -16,7 +16,7 @@ use Rattle.descriptor.specs.declared.Received.{Received}
 use Rattle.descriptor.specs.declared.Received.the-variants.{NullItem, Shows}
 use Rattle.descriptor.specs.declared.Reason.{Reason}
 use Rattle.descriptor.specs.declared.Reason.the-variants.{NothingFilled}
-use Rattle.descriptor.specs.Descriptors.{Proper}
+use Rattle.descriptor.specs.Descriptors.{Proper, ShownProper}
 use Rattle.descriptor.proofs.DescriptorLaws.{proper-end}
 use Rattle.interface.specs.Places.{State, placesIn}
 use Rattle.interface.specs.Boot.{hypervisor, root}
@@ -55,10 +55,10 @@ delegations-few from to hotspot item window s m =
     omega (arith, proper-end (m .item-proper))
 
 -- what an outcome shows is proper
-null-proper : (reason : Reason) (range : Range) → NullItem reason ≡ Shows range → Proper range
+null-proper : (reason : Reason) → ShownProper (NullItem reason)
 null-proper reason range e = let never : _≡_ {A = ℕ} 0 1 = cc in absurd (omega arith)
 
-shown-proper : (shown : Range) → Proper shown → (range : Range) → Shows shown ≡ Shows range → Proper range
+shown-proper : (shown : Range) → Proper shown → ShownProper (Shows shown)
 shown-proper shown proper range e = let same : shown ≡ range = cc in subst Proper same proper
 
 -- a delegated item, by how many places its delegations filled

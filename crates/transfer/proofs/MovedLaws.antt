@@ -1,5 +1,5 @@
 -- Laws of typed items in turn: one more of them, and that they are the definition's, whose receiver's block is the lower words and the upper ones.
-use Prim.Native.Nat.{ℕ, zero, suc, _+_, _-_, _*_, _%_, _≤_, _<_}
+use Prim.Native.Nat.{ℕ, zero, suc, _+_, _-_, _*_, _≤_, _<_}
 use mathlib.Core.Path.{_≡_, refl, sym, ap, subst, _∙_}
 use mathlib.Core.List.{List, [], _∷_, _++_, append-nil}
 use native.Mathlib.Nat.{le-refl}
@@ -9,10 +9,10 @@ use lib.ListN.{length, take, drop, set, length-set, length-drop, take-append-dro
 use lib.Seq.{take-all, drop-length, length-take-le}
 use borrow.Rule.Slice.PartMut.{putMid, post-is}
 use Rattle.words.specs.Sizes.{object, selectors, domains, blockWords}
-use Rattle.interface.specs.Basics.{word}
-use Rattle.interface.specs.Places.{State, capAt, capTable, placesIn}
 use Rattle.descriptor.specs.declared.Reading.{Reading}
 use Rattle.descriptor.proofs.DescriptorLaws.{good-proper}
+use Rattle.interface.specs.Basics.{word}
+use Rattle.interface.specs.Places.{State, capAt, capTable, placesIn}
 use Rattle.interface.specs.RangeDescriptors.{reading, whyNull}
 use Rattle.interface.specs.Effects.{run, filled}
 use Rattle.interface.specs.Message.{headWords, untypedCount, typedCount, translateWindow, delegateWindow, itemWords, descriptorAt, secondAt, receivedWord, receivedSecond, Item, Moved, itemOf, untypedCopied, carried, transfer}

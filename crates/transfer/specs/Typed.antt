@@ -4,10 +4,8 @@ use mathlib.Core.Path.{_≡_}
 use mathlib.Core.List.{List}
 use lib.Dec.{eqb}
 use Rattle.words.specs.Sizes.{object, selectors}
-use Rattle.descriptor.specs.declared.Range.{Range}
 use Rattle.descriptor.specs.declared.Reading.{Reading}
-use Rattle.descriptor.specs.declared.Received.the-variants.{Shows}
-use Rattle.descriptor.specs.Descriptors.{Proper}
+use Rattle.descriptor.specs.Descriptors.{ShownProper}
 use Rattle.interface.specs.Basics.{if_then_else_}
 use Rattle.interface.specs.Places.{State}
 use Rattle.interface.specs.RangeDescriptors.{reading, matched}
@@ -25,6 +23,6 @@ itemBy s sender receiver descriptor second translating delegating =
 -- an item that is done: what the receiver is shown, which is proper if it is a range, and its delegations, no more than the object space has selectors
 pub record Done (before after : List ℕ) (item : Item) (outcome : Outcome) : Type 0 where
   pub shown : outcome .received ≡ item .received
-  pub proper : (range : Range) → outcome .received ≡ Shows range → Proper range
+  pub proper : ShownProper (outcome .received)
   pub taken : Taken before after (item .effects) (outcome .filled)
   pub few : outcome .filled ≤ selectors object

@@ -2,10 +2,9 @@
 ghost use Prim.Native.Nat.{_<_, _≤_};
 ghost use mathlib.Core.Path.{_≡_};
 ghost use Rattle.words.specs.Sizes.{domains};
-ghost use Rattle.descriptor.specs.declared.Range.{Range};
 ghost use Rattle.descriptor.specs.declared.Match.the-variants.{Both};
-ghost use Rattle.descriptor.specs.declared.Received.the-variants.{NullItem, Shows};
-ghost use Rattle.descriptor.specs.Descriptors.{whyNull, Proper, ReadProper};
+ghost use Rattle.descriptor.specs.declared.Received.the-variants.{NullItem};
+ghost use Rattle.descriptor.specs.Descriptors.{whyNull, ReadProper, ShownProper};
 ghost use Rattle.interface.specs.Places.{capAt, placesIn};
 ghost use Rattle.interface.specs.Message.{receivedWord, receivedSecond, sourceDomain, delegateItem, transfer};
 ghost use Rattle.places.specs.Table.{Sized};
@@ -54,7 +53,7 @@ fn source_domain(sender: u32, second: u32) -> u32
 
 // The word of the descriptor that the receiver is given.
 fn received_word(received: Received) -> u32
-    requires { ⌜ ((range : Range) → received ≡ Shows range → Proper range) ⌝ }
+    requires { ⌜ ShownProper received ⌝ }
     ensures { λ r. ⌜ r ≡ receivedWord received ⌝ }
 {
     match received {

@@ -10,7 +10,7 @@ use Rattle.descriptor.specs.declared.Match.the-variants.{Both}
 use Rattle.descriptor.specs.declared.Received.{Received}
 use Rattle.descriptor.specs.declared.Received.the-variants.{NullItem, Shows}
 use Rattle.descriptor.specs.declared.Reason.the-variants.{TranslationBroke}
-use Rattle.descriptor.specs.Descriptors.{Proper}
+use Rattle.descriptor.specs.Descriptors.{Proper, ShownProper}
 use Rattle.interface.specs.Places.{Cap, capAt, placesIn}
 use Rattle.interface.specs.Message.{senderPlace, translatedBase, common, translates, translateItem}
 use Rattle.interface.proofs.Basics.BoolLaws.{cases}
@@ -26,7 +26,7 @@ common-le mask (suc n) caps = omega (arith, common-le mask n caps, and-le-l (com
 
 -- a range that a translated item shows is proper
 pub translated-proper : (table : List ℕ) (sender receiver : ℕ) (item window : Range) → Matched item window → {received : Received} →
-    received ≡ translateItem (placesIn table) sender receiver (Both item window) .received → (range : Range) → received ≡ Shows range → Proper range
+    received ≡ translateItem (placesIn table) sender receiver (Both item window) .received → ShownProper received
 unfolding translateItem
 translated-proper table sender receiver item window m e range shows =
     let caps = capAt table in

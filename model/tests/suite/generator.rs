@@ -9,6 +9,8 @@ use model::journal::{lines, Record, Replay, Step};
 use model::tables::Space;
 use model::{Hypercall, Status};
 
+use crate::world::{DELEGATE, TRANSLATE};
+
 #[test]
 fn the_same_arguments_give_the_same_bytes() {
     let mut all = BTreeSet::new();
@@ -48,6 +50,8 @@ const PAIRS: [&str; 4] = [
 pub struct Received {
     /// By reason; 0 for those that are not null.
     reasons: [[u32; 6]; 2],
+    /// Those that show more than one place.
+    ranges: [u32; 2],
     pairs: [[u32; PAIRS.len()]; 2],
 }
 
@@ -59,6 +63,7 @@ impl Received {
             let (kind, reason) = (second as usize % 2, second / 2);
             assert_eq!(shown == 0, reason != 0);
             self.reasons[kind][reason as usize] += 1;
+            self.ranges[kind] += u32::from(shown >> 7 & 31 > 0);
             let item = Descriptor::from_word(record.source[63 - 2 * item]);
             let window = Descriptor::from_word(record.target[1 + kind]);
             let differ = item.space() != window.space();
@@ -72,6 +77,14 @@ impl Received {
             assert_eq!(reason, expected, "{}", PAIRS[pair]);
             self.pairs[kind][pair] += 1;
         }
+    }
+
+    /// Whether a kind's items reach more than these numbers: of those that are not null, of
+    /// ranges among them, and of null ones.
+    fn reaches(&self, kind: u32, shown: u32, ranges: u32, null: u32) -> bool {
+        let kind = kind as usize;
+        let nulls: u32 = self.reasons[kind][1..].iter().sum();
+        self.reasons[kind][0] > shown && self.ranges[kind] > ranges && nulls > null
     }
 
     /// Every reason that a kind can have, and every pair, with its count.
@@ -102,13 +115,6 @@ struct Reached {
     depth: u32,
     domains: u32,
     objects: usize,
-    /// Items by kind: shown and null, and translations of more than one place.
-    translated: u32,
-    translated_ranges: u32,
-    untranslated: u32,
-    delegated: u32,
-    delegated_ranges: u32,
-    undelegated: u32,
     received: Received,
     /// Delegations from domain 0, and within one domain.
     from_hypervisor: u32,
@@ -130,7 +136,7 @@ fn reach(kind: Kind, seeds: u64, count: usize) -> Reached {
             let status = reply.status.number();
             reached.statuses.insert((call.number(), status));
             if call == Hypercall::Call && status == 0 {
-                items(&replay, &mut reached);
+                reached.received.count(&replay.record);
             }
             reached.revoked += u32::from(call == Hypercall::Revoke && status == 0);
             if let Some((space, mask)) = refused_mask(&replay.record, reply.status) {
@@ -161,27 +167,6 @@ fn reach(kind: Kind, seeds: u64, count: usize) -> Reached {
     reached
 }
 
-fn items(replay: &Replay, reached: &mut Reached) {
-    let (source, target) = (&replay.record.source, &replay.record.target);
-    reached.received.count(&replay.record);
-    for item in 0..(source[0] >> 16) as usize {
-        let shown = target[63 - 2 * item];
-        let ranges = u32::from(shown >> 7 & 31 > 0);
-        match (target[62 - 2 * item] % 2, shown) {
-            (0, 0) => reached.untranslated += 1,
-            (0, _) => {
-                reached.translated += 1;
-                reached.translated_ranges += ranges;
-            }
-            (_, 0) => reached.undelegated += 1,
-            _ => {
-                reached.delegated += 1;
-                reached.delegated_ranges += ranges;
-            }
-        }
-    }
-}
-
 /// The statuses that each hypercall can give on sound tables, by their numbers.
 pub fn every_status_of_every_call() -> BTreeSet<(u32, u32)> {
     let possible: [(u32, &[u32]); 9] = [
@@ -205,12 +190,8 @@ pub fn every_status_of_every_call() -> BTreeSet<(u32, u32)> {
 fn mixed_journals_reach_every_status_of_every_call() {
     let reached = reach(Kind::Mixed, 60, 300);
     assert_eq!(reached.statuses, every_status_of_every_call());
-    assert!(
-        reached.translated > 500 && reached.translated_ranges > 50 && reached.untranslated > 500
-    );
-    assert!(
-        reached.delegated > 5000 && reached.delegated_ranges > 1000 && reached.undelegated > 1000
-    );
+    assert!(reached.received.reaches(TRANSLATE, 500, 50, 500));
+    assert!(reached.received.reaches(DELEGATE, 5000, 1000, 1000));
     assert!(reached.from_hypervisor > 500 && reached.within_domain > 500);
     assert!(reached.cuts > 0 && reached.bads > 0);
 }
@@ -219,7 +200,7 @@ fn mixed_journals_reach_every_status_of_every_call() {
 fn deep_journals_reach_the_depth_limit() {
     let reached = reach(Kind::Deep, 12, 300);
     assert_eq!(reached.depth, 31);
-    assert!(reached.translated > 100 && reached.translated_ranges > 5);
+    assert!(reached.received.reaches(TRANSLATE, 100, 5, 0));
 }
 
 #[test]

@@ -2,7 +2,6 @@
 
 use crate::world::*;
 
-const MALFORMED: u32 = range(MEMORY, 2, 2, 31);
 const ODD_NULL: u32 = 0xabcd_ef00;
 
 #[test]

@@ -43,8 +43,6 @@ fn lent() -> World {
 /// The reasons of a translation and of a delegation for which item and window are good.
 const FAILED: [u32; 2] = [5, 4];
 
-const MALFORMED: u32 = range(MEMORY, 2, 2, 31);
-
 /// The descriptor of an item or a window.
 #[derive(Clone, Copy, Debug)]
 struct Word {

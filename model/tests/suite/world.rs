@@ -25,6 +25,9 @@ pub const TRANSLATE: u32 = 0;
 pub const DELEGATE: u32 = 1;
 pub const FROM_HYPERVISOR: u32 = 1 << 11;
 
+/// A memory descriptor whose base is not aligned.
+pub const MALFORMED: u32 = range(MEMORY, 2, 2, 31);
+
 /// A descriptor word from its fields.
 pub const fn range(space: u32, base: u32, order: u32, mask: u32) -> u32 {
     base << 12 | order << 7 | mask << 2 | (space + 1)

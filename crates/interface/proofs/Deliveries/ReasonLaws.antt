@@ -27,10 +27,10 @@ use Rattle.interface.specs.Damage.{soundState}
 use Rattle.interface.specs.RangeDescriptors.{typeOf, reading, matched, reasonNumber, whyNull}
 use Rattle.interface.specs.Effects.{Effect, run, fillsOne, filled}
 use Rattle.interface.specs.Verdicts.{Call, callerDomain}
-use Rattle.interface.specs.Message.{delegateBit, receivedWord, receivedSecond, Item, sourceDomain, delegateItem, translateItem, translates, itemOf}
+use Rattle.interface.specs.Message.{delegateBit, receivedWord, receivedSecond, Item, sourceDomain, delegateItem, translateItem, itemOf}
 use Rattle.interface.specs.Translations.{Translated}
 use Rattle.interface.specs.Consequences.{calleeDomain}
-use Rattle.interface.specs.Deliveries.{Due, firstWord, secondWord, windowWord, DelegatesTo, TranslatesTo, offsets, hotBase, sourceAt, destinationAt, before, Cause, FirstCause, ReasonGiven}
+use Rattle.interface.specs.Deliveries.{Due, firstWord, secondWord, windowWord, DelegatesTo, TranslatesTo, offsets, hotBase, sourceAt, destinationAt, before, translatedItem, Cause, FirstCause, ReasonGiven}
 use Rattle.interface.proofs.Basics.BoolLaws.{cases}
 use Rattle.interface.proofs.Tables.TurnLaws.{filled-append}
 use Rattle.interface.proofs.Tables.TableLaws.{take-listed}
@@ -103,6 +103,17 @@ module _ (s : State) (c : Call) (item : ℕ) where
         (due-counts (before s c item offset .state) (destinationAt s c item range window offset) (sourceAt s c item range window offset) (range .mask) due))
         (rw (steps-listed s c item range window to) at none)
 
+  -- an item that translates: what the receiver is shown is the rule's, which is exact
+  module _ (range window : Range) (to : TranslatesTo c item range window) where
+    pub received-by-rule : outcome s c item .received ≡ translatedItem s c item range window .received
+    received-by-rule = ap (λ (i : Item). i .received) (outcome-matched s c item range window to) ∙ (rw (before-first s c item))
+
+    pub rule-exact : callerDomain s c < domains → soundState (before s c item 0 .state) ≡ true →
+        Translated (before s c item 0 .state) (callerDomain s c) (calleeDomain s c) range window (translatedItem s c item range window)
+    rule-exact small sound =
+        translates-exactly (before s c item 0 .state) (callerDomain s c) (calleeDomain s c) range window sound small
+        (good-proper (firstWord c item) range (to .range-read))
+
   -- none of the causes whose numbers are below one holds
   abbrev Clear : ℕ → Type 0
   Clear n = (reason : Reason) → reasonNumber reason < n → Cause s c item reason → ⊥
@@ -124,10 +135,10 @@ module _ (s : State) (c : Call) (item : ℕ) where
   MatchTells (Both range window) =
       (reading (firstWord c item) ≡ Good range) × (reading (windowWord c item) ≡ Good window) × (range .space ≡ window .space) × Clear 4
 
-  module _ (a b : Reading) (is-a : reading (firstWord c item) ≡ a) (is-b : reading (windowWord c item) ≡ b) where
-    first-null : (bits 0 1 (firstWord c item) ≡ 0) ⊎ (bits 0 1 (windowWord c item) ≡ 0) → MatchTells (Neither NullDescriptor)
-    first-null cause = record { holds = cause; none-lower = clear-first }
+  first-null : Cause s c item NullDescriptor → MatchTells (Neither NullDescriptor)
+  first-null cause = record { holds = cause; none-lower = clear-first }
 
+  module _ (a b : Reading) (is-a : reading (firstWord c item) ≡ a) (is-b : reading (windowWord c item) ≡ b) where
     not-null : (a ≡ Null → ⊥) → (b ≡ Null → ⊥) → Clear 2
     not-null m n =
         clear-next NullDescriptor clear-first
@@ -143,11 +154,11 @@ module _ (s : State) (c : Call) (item : ℕ) where
 
   match-tells : (a b : Reading) → reading (firstWord c item) ≡ a → reading (windowWord c item) ≡ b → MatchTells (matched a b)
   unfolding matched
-  match-tells Null Null p q = first-null Null Null p q (inl (null-type (firstWord c item) p))
-  match-tells Null Malformed p q = first-null Null Malformed p q (inl (null-type (firstWord c item) p))
-  match-tells Null (Good window) p q = first-null Null (Good window) p q (inl (null-type (firstWord c item) p))
-  match-tells Malformed Null p q = first-null Malformed Null p q (inr (null-type (windowWord c item) q))
-  match-tells (Good range) Null p q = first-null (Good range) Null p q (inr (null-type (windowWord c item) q))
+  match-tells Null Null p q = first-null (inl (null-type (firstWord c item) p))
+  match-tells Null Malformed p q = first-null (inl (null-type (firstWord c item) p))
+  match-tells Null (Good window) p q = first-null (inl (null-type (firstWord c item) p))
+  match-tells Malformed Null p q = first-null (inr (null-type (windowWord c item) q))
+  match-tells (Good range) Null p q = first-null (inr (null-type (windowWord c item) q))
   match-tells Malformed Malformed p q = first-malformed Malformed Malformed p q malformed-some malformed-some (inl refl)
   match-tells Malformed (Good window) p q = first-malformed Malformed (Good window) p q malformed-some good-some (inl refl)
   match-tells (Good range) Malformed p q = first-malformed (Good range) Malformed p q good-some malformed-some (inr refl)
@@ -215,19 +226,6 @@ module _ (s : State) (c : Call) (item : ℕ) where
     window-translates : windowWord c item ≡ word (c .target) 1
     window-translates = rw (ne-eqb (bits 0 0 (secondWord c item)) 1 (λ one. omega arith))
 
-    -- what the rule of translation makes of it
-    abbrev ruled : Range → Range → Item
-    ruled range window = translateItem (before s c item 0 .state) (callerDomain s c) (calleeDomain s c) (Both range window)
-
-    module _ (range window : Range) (to : TranslatesTo c item range window) where
-      is-ruled : outcome s c item .received ≡ ruled range window .received
-      is-ruled = ap (λ (i : Item). i .received) (outcome-matched s c item range window to) ∙ (rw (before-first s c item))
-
-      exact : Translated (before s c item 0 .state) (callerDomain s c) (calleeDomain s c) range window (ruled range window)
-      exact =
-          translates-exactly (before s c item 0 .state) (callerDomain s c) (calleeDomain s c) range window sound small
-          (good-proper (firstWord c item) range (to .range-read))
-
     translate-tells : (match : Match) → matched (reading (firstWord c item)) (reading (windowWord c item)) ≡ match → MatchTells match →
         Tells (outcome s c item .received)
     unfolding itemOf translateItem
@@ -239,30 +237,30 @@ module _ (s : State) (c : Call) (item : ℕ) where
         let to : TranslatesTo c item range window =
         record { translate-bit = bit; range-read = p; window-read = ap reading (sym window-translates) ∙ q; same-space = same } in
         let not-filling : Clear 5 = clear-next NothingFilled clear (λ cause. omega (arith, cause .0)) in
-        go (ruled range window .received) refl to not-filling
+        go (translatedItem s c item range window .received) refl to not-filling
       where
-        go : (received : Received) → ruled range window .received ≡ received → TranslatesTo c item range window → Clear 5 → Tells (outcome s c item .received)
+        go : (received : Received) → translatedItem s c item range window .received ≡ received → TranslatesTo c item range window → Clear 5 → Tells (outcome s c item .received)
         go (NullItem reason) r to not-filling =
-            let one = exact range window to .one-reason reason r in
-            let is-null : outcome s c item .received ≡ NullItem TranslationBroke = is-ruled range window to ∙ r ∙ ap NullItem one in
+            let one = rule-exact range window to small sound .one-reason reason r in
+            let is-null : outcome s c item .received ≡ NullItem TranslationBroke = received-by-rule range window to ∙ r ∙ ap NullItem one in
             subst Tells (sym is-null)
             (record {
               holds = (
                 bit,
                 λ other-range other-window other-to.
-                    exact other-range other-window other-to .null-so .0 (sym (is-ruled other-range other-window other-to) ∙ is-null),
+                    rule-exact other-range other-window other-to small sound .null-so .0 (sym (received-by-rule other-range other-window other-to) ∙ is-null),
               );
               none-lower = not-filling;
             })
         go (Shows shown) r to not-filling =
             let unbroken : Cause s c item TranslationBroke → ⊥ =
             λ cause.
-            let broke = exact range window to .null-so .1 (cause .1 range window to) in
+            let broke = rule-exact range window to small sound .null-so .1 (cause .1 range window to) in
             let never : _≡_ {A = ℕ} 0 1 = cc in omega arith in
-            subst Tells (sym (is-ruled range window to ∙ r)) (nothing-holds (clear-next TranslationBroke not-filling unbroken))
+            subst Tells (sym (received-by-rule range window to ∙ r)) (nothing-holds (clear-next TranslationBroke not-filling unbroken))
 
   -- any item
-  pub item-tells : callerDomain s c < domains → soundState (before s c item 0 .state) ≡ true → Tells (outcome s c item .received)
+  item-tells : callerDomain s c < domains → soundState (before s c item 0 .state) ≡ true → Tells (outcome s c item .received)
   item-tells small sound =
       let tells = match-tells (reading (firstWord c item)) (reading (windowWord c item)) refl refl in
       cases (eqb (bits 0 0 (secondWord c item)) 1)

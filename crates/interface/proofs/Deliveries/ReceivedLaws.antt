@@ -1,8 +1,8 @@
 -- What the receiver's block holds after CALL, word by word.
-use Prim.Native.Nat.{ℕ, zero, suc, _+_, _-_, _*_, _/_, _≤_, _<_, min}
+use Prim.Native.Nat.{ℕ, zero, suc, _+_, _-_, _*_, _/_, _≤_, _<_}
 use mathlib.Core.Path.{_≡_, refl, sym, ap, _∙_}
 use mathlib.Core.Bool.{true}
-use mathlib.Core.List.{List, [], _∷_, _++_}
+use mathlib.Core.List.{List, _++_}
 use mathlib.Core.Logic.{_≢_}
 use native.Mathlib.Decide.{le-ind}
 use native.Mathlib.Omega.{arith}
@@ -10,20 +10,15 @@ use lib.ListN.{length, take, drop, set, length-drop, length-set, List·getD-appe
 use lib.Seq.{paste, length-paste, length-paste-head, length-take-le, getD-take, getD-drop, getD-append-add, getD-set-same, getD-set-other}
 use borrow.Author.Tests.{eq-eqb, ne-eqb}
 use Rattle.words.specs.Sizes.{domains, blockWords}
-use Rattle.descriptor.specs.declared.Range.{Range}
-use Rattle.descriptor.proofs.DescriptorLaws.{good-proper}
-use Rattle.interface.specs.Basics.{word, listed}
+use Rattle.interface.specs.Basics.{word}
 use Rattle.interface.specs.Places.{State}
 use Rattle.interface.specs.Damage.{soundState}
 use Rattle.interface.specs.RangeDescriptors.{whyNull}
-use Rattle.interface.specs.Effects.{Effect, run, fillsOne, filled}
 use Rattle.interface.specs.Verdicts.{Call, callerDomain}
 use Rattle.interface.specs.Message.{headWords, payloadWords, untypedCount, itemWords, descriptorAt, secondAt, delegateBit, receivedWord, receivedSecond, Item, untypedCopied, carried}
-use Rattle.interface.specs.Consequences.{calleeDomain}
-use Rattle.interface.specs.Deliveries.{Due, untyped, itemCount, DelegatesTo, offsets, hotBase, sourceAt, destinationAt, before, DelegateShown, TranslateShown, WordsDelivered, DeliversWords}
-use Rattle.interface.proofs.Deliveries.TranslationLaws.{translates-exactly}
-use Rattle.interface.proofs.Deliveries.DeliveryLaws.{movedBefore, outcome, before-first, outcome-unmatched, outcome-matched, outcome-untranslated, CallGranted, call-granted, caller-domain-small, before-sound, call-delivers}
-use Rattle.interface.proofs.Deliveries.ReasonLaws.{received-by-filled, none-filled, some-filled, reason-given}
+use Rattle.interface.specs.Deliveries.{untyped, itemCount, before, DelegateShown, TranslateShown, WordsDelivered, DeliversWords}
+use Rattle.interface.proofs.Deliveries.DeliveryLaws.{movedBefore, outcome, outcome-unmatched, outcome-untranslated, CallGranted, call-granted, caller-domain-small, before-sound, call-delivers}
+use Rattle.interface.proofs.Deliveries.ReasonLaws.{received-by-filled, none-filled, some-filled, received-by-rule, rule-exact, reason-given}
 
 -- A copy into a list: its words before the copy, in it, and after it.
 module _ (into from : List ℕ) (at size : ℕ) (fits : at + size ≤ length into) (enough : size ≤ length from) where
@@ -148,13 +143,8 @@ module _ (s : State) (c : Call) where
             λ other.
             let (reason, null) = outcome-untranslated s c item other bit in
             e ∙ ap (λ (i : Item). receivedWord (i .received)) null;
-        matched-shown =
-            λ range window to.
-            e ∙ ap (λ (i : Item). receivedWord (i .received)) (outcome-matched s c item range window to) ∙ (rw (before-first s c item));
-        matched-exact =
-            λ range window to.
-            translates-exactly (before s c item 0 .state) (callerDomain s c) (calleeDomain s c) range window sound small
-            (good-proper (word (c .source) (descriptorAt item)) range (to .range-read));
+        matched-shown = λ range window to. e ∙ ap receivedWord (received-by-rule s c item range window to);
+        matched-exact = λ range window to. rule-exact s c item range window to small sound;
       }
 
 -- the words that are copied before the items

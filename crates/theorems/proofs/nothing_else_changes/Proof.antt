@@ -1,4 +1,4 @@
-use Rattle.interface.proofs.Consequences.UnchangedLaws.{nothing-else-changes}
+use Rattle.interface.proofs.Consequences.WithoutReasonsLaws.{nothing-else-changes}
 use Rattle.theorems.proofs.nothing_else_changes.Statement.{statement}
 use Rattle.theorems.proofs.nothing_else_changes.Tie as tie
 

@@ -1,5 +1,4 @@
 -- A word is read as it was kept.
-use mathlib.Core.Path.{_∙_}
 use borrow.Author.Needs.{needs}
 use Rattle.descriptor.proofs.DescriptorLaws.{reading-kept}
 use Rattle.windows.proofs.read.Statement.{statement}

@@ -1,5 +1,5 @@
 -- The reasons in received second words change nothing else: by induction over the items, and then check by check.
-use Prim.Native.Nat.{ℕ, zero, suc, _+_, _-_, _*_, _≤_, _<_}
+use Prim.Native.Nat.{ℕ, zero, suc, _+_, _-_, _≤_, _<_}
 use mathlib.Core.Path.{_≡_, refl, sym, ap, _∙_}
 use mathlib.Core.Bool.{Bool, true, false, not, _&&_, true≢false}
 use mathlib.Core.List.{List, [], _∷_}
@@ -10,18 +10,18 @@ use native.Mathlib.Omega.{arith}
 use lib.Dec.{eqb, ltb}
 use lib.ListN.{length, set, length-set}
 use lib.Seq.{set-out, getD-set-same, getD-set-other}
-use borrow.Author.Tests.{eqb-true, eqb-false, eq-eqb, ltb-true, ltb-false}
+use borrow.Author.Tests.{eqb-true, eqb-false, ltb-true, ltb-false}
 use Rattle.words.specs.Fields.{bits}
 use Rattle.words.specs.Sizes.{blockWords}
 use Rattle.descriptor.specs.declared.Received.{Received}
 use Rattle.reply.specs.declared.Reply.{Reply}
 use Rattle.reply.specs.declared.Reply.the-variants.{Success, ComTim, BadCap, BadPar, BadCpu, Damaged, BadCaller}
 use Rattle.interface.specs.Basics.{word}
-use Rattle.interface.specs.Places.{State, Tables, PT, ecWord, domainWord, cpuWord, callBit, objectPlace, permitted, objectIn, sized, shown}
+use Rattle.interface.specs.Places.{State, Tables, PT, ecWord, cpuWord, callBit, objectPlace, permitted, objectIn, sized, shown}
 use Rattle.interface.specs.Damage.{soundState, isEc}
 use Rattle.interface.specs.RangeDescriptors.{whyNull}
 use Rattle.interface.specs.Effects.{Effect, run}
-use Rattle.interface.specs.Verdicts.{Call, CALL, Verdict, deliver, require_else_then_, callerDomain, replyOf, effectsOf, blockOf}
+use Rattle.interface.specs.Verdicts.{Call, CALL, Verdict, require_else_then_, callerDomain, replyOf, effectsOf, blockOf}
 use Rattle.interface.specs.Message.{payloadFits, typedCount, descriptorAt, secondAt, delegateBit, receivedWord, Moved, itemOf, untypedCopied, carried}
 use Rattle.interface.specs.PortalCalls.{portalCall}
 use Rattle.interface.specs.Rules.{hypercall, called, rules, after, judged, hypercallTables}
@@ -29,8 +29,8 @@ use Rattle.interface.specs.History.{tell, told, noteAll}
 use Rattle.interface.specs.Journal.{linesFrom}
 use Rattle.interface.specs.Consequences.{calleeDomain}
 use Rattle.interface.specs.Deliveries.{itemCount, secondWord}
-use Rattle.interface.specs.Reasons.{carriedWith, callWith, hypercallWith, rulesWith, judgedWith, tablesWith, linesWith, IsSecond, NothingElseChanges}
-use Rattle.interface.proofs.Basics.BoolLaws.{cases, not-both}
+use Rattle.interface.specs.WithoutReasons.{carriedWith, callWith, hypercallWith, rulesWith, judgedWith, tablesWith, linesWith, IsSecond, NothingElseChanges}
+use Rattle.interface.proofs.Basics.BoolLaws.{cases}
 use Rattle.interface.proofs.Tables.VerdictLaws.{refuses}
 use Rattle.interface.proofs.Deliveries.DeliveryLaws.{call-granted, call-delivers}
 use Rattle.interface.proofs.Deliveries.ReceivedLaws.{mostItems, second-off-descriptor, seconds-apart, all-copied, items-few}
