@@ -198,11 +198,10 @@ untypedCopied source target =
     let u = untypedCount (word source 0) in
     take headWords block ++ take u (drop headWords source) ++ drop (headWords + u) block
 
--- after some items in turn, each on the tables that those before it left
-unfoldable pub carried : State → ℕ → ℕ → List ℕ → List ℕ → ℕ → Moved
-carried s sender receiver source target zero = record { effects = []; filled = 0; block = untypedCopied source target }
-carried s sender receiver source target (suc i) =
-    let before = carried s sender receiver source target i in
+-- after one more item, on the tables that those before it left: its steps, the places it fills, and its two words; in the second stands, above the kind, a number that goes by what
+-- the receiver is shown
+abbrev pub itemCarried : (Received → ℕ) → State → ℕ → ℕ → List ℕ → List ℕ → ℕ → Moved → Moved
+itemCarried why s sender receiver source target i before =
     let now = run (before .effects) s in
     let item = itemOf now sender receiver source target i in
     record {
@@ -210,8 +209,14 @@ carried s sender receiver source target (suc i) =
       filled = before .filled + filled (item .effects) now;
       block =
           set (set (before .block) (descriptorAt i) (receivedWord (item .received))) (secondAt i)
-          (receivedSecond (word source (secondAt i)) (whyNull (item .received)));
+          (receivedSecond (word source (secondAt i)) (why (item .received)));
     }
+
+-- after some items in turn; the number is why the item is null
+unfoldable pub carried : State → ℕ → ℕ → List ℕ → List ℕ → ℕ → Moved
+carried s sender receiver source target zero = record { effects = []; filled = 0; block = untypedCopied source target }
+carried s sender receiver source target (suc i) =
+    itemCarried whyNull s sender receiver source target i (carried s sender receiver source target i)
 
 -- the whole message
 abbrev pub transfer : State → ℕ → ℕ → List ℕ → List ℕ → Moved

@@ -2,9 +2,9 @@
 -- they are.
 use Prim.Native.Nat.{ℕ, zero, suc, _+_, _-_, _*_, _<_}
 use mathlib.Core.Path.{_≡_}
-use mathlib.Core.List.{List, [], _∷_, _++_}
+use mathlib.Core.List.{List, [], _∷_}
 use lib.Dec.{eqb}
-use lib.ListN.{length, set}
+use lib.ListN.{length}
 use Rattle.words.specs.Fields.{bits}
 use Rattle.descriptor.specs.declared.Received.{Received}
 use Rattle.reply.specs.Replies.{statusOf, answerOf}
@@ -14,9 +14,9 @@ use Rattle.interface.specs.Basics.{if_then_else_, word}
 use Rattle.interface.specs.Places.{State, Tables, sized, shown, tablesOf}
 use Rattle.interface.specs.Damage.{soundState}
 use Rattle.interface.specs.RangeDescriptors.{whyNull}
-use Rattle.interface.specs.Effects.{run, filled}
+use Rattle.interface.specs.Effects.{run}
 use Rattle.interface.specs.Verdicts.{Call, CALL, Verdict, require_else_then_, replyOf, effectsOf, blockOf}
-use Rattle.interface.specs.Message.{typedCount, descriptorAt, secondAt, receivedWord, receivedSecond, Moved, itemOf, untypedCopied}
+use Rattle.interface.specs.Message.{typedCount, Moved, untypedCopied, itemCarried}
 use Rattle.interface.specs.PortalCalls.{callDelivering}
 use Rattle.interface.specs.Rules.{Built, rule, hypercall, called, rules, hypercallReply, hypercallTables}
 use Rattle.interface.specs.History.{History, hypercalls, told, noteAll, tell}
@@ -27,16 +27,7 @@ use Rattle.interface.specs.Deliveries.{itemCount, secondWord}
 unfoldable pub carriedWith : (Received → ℕ) → State → ℕ → ℕ → List ℕ → List ℕ → ℕ → Moved
 carriedWith beside s sender receiver source target zero = record { effects = []; filled = 0; block = untypedCopied source target }
 carriedWith beside s sender receiver source target (suc i) =
-    let before = carriedWith beside s sender receiver source target i in
-    let now = run (before .effects) s in
-    let item = itemOf now sender receiver source target i in
-    record {
-      effects = before .effects ++ item .effects;
-      filled = before .filled + filled (item .effects) now;
-      block =
-          set (set (before .block) (descriptorAt i) (receivedWord (item .received))) (secondAt i)
-          (receivedSecond (word source (secondAt i)) (beside (item .received)));
-    }
+    itemCarried beside s sender receiver source target i (carriedWith beside s sender receiver source target i)
 
 -- CALL, the rules of every hypercall, and the verdict on tables of any lengths, with such messages
 abbrev pub callWith : (Received → ℕ) → State → Call → Verdict
