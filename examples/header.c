@@ -104,6 +104,38 @@ static bool boot(struct rudozhev_tables *booted) {
     return rudozhev_status(reply) == RUDOZHEV_SUCCESS;
 }
 
+/* What the root finds at one of its pages; a null descriptor where it has none. */
+static uint32_t root_page(uint32_t page) {
+    const uint32_t one = rudozhev_range(RUDOZHEV_MEMORY, page, 0, 0);
+    return rudozhev_answer(rudozhev_lookup(&tables, RUDOZHEV_ROOT_EC, one));
+}
+
+/* How many places have a page of the hypervisor, one at most, which is listed. */
+static uint32_t lent_out(uint32_t page, uint32_t *heir) {
+    uint64_t reply = rudozhev_census(rudozhev_place(0, RUDOZHEV_MEMORY, page), tables.places, RUDOZHEV_PLACE_WORDS,
+                                     tables.objects, RUDOZHEV_OBJECT_WORDS, heir, 1);
+    HOLDS(rudozhev_status(reply) == RUDOZHEV_SUCCESS);
+    return rudozhev_answer(reply);
+}
+
+/* The root's pages after boot, and one of them given up. */
+static void root_pages(void) {
+    enum { UTCB = RUDOZHEV_ROOT_UTCB_PAGE, INFORMATION = RUDOZHEV_INFORMATION_PAGE };
+    uint32_t heir = 0;
+    HOLDS(root_page(UTCB) == 253965 && root_page(INFORMATION) == 258053 && root_page(UTCB - 1) == RUDOZHEV_NULL);
+    HOLDS(lent_out(UTCB, &heir) == 1 && heir == 254);
+    HOLDS(lent_out(INFORMATION, &heir) == 1 && heir == 255);
+    const uint32_t all = rudozhev_range(RUDOZHEV_MEMORY, INFORMATION, 0, RUDOZHEV_FULL_MASK);
+    HOLDS(all == 258173 && rudozhev_revoke(&tables, RUDOZHEV_ROOT_EC, all, false) == RUDOZHEV_SUCCESS);
+    HOLDS(root_page(INFORMATION) == 258053 && lent_out(INFORMATION, &heir) == 1);
+    HOLDS(rudozhev_revoke(&tables, RUDOZHEV_ROOT_EC, all, true) == RUDOZHEV_SUCCESS);
+    HOLDS(root_page(INFORMATION) == RUDOZHEV_NULL && lent_out(INFORMATION, &heir) == 0);
+    HOLDS(root_page(UTCB) == 253965 && lent_out(UTCB, &heir) == 1);
+    HOLDS(breached(0, RUDOZHEV_NOWHERE, 0, RUDOZHEV_OBJECT_WORDS));
+    const uint32_t kept[RUDOZHEV_PLACE_WIDTH] = {INFORMATION, 7, 0, 0};
+    HOLDS(memcmp(tables.places + RUDOZHEV_PLACE_WIDTH * INFORMATION, kept, sizeof kept) == 0);
+}
+
 static void hypercalls(void) {
     enum { PD = RUDOZHEV_ROOT_PD_SELECTOR, EC = RUDOZHEV_ROOT_EC_SELECTOR, CALLER = RUDOZHEV_ROOT_EC };
     const uint32_t all = rudozhev_range(RUDOZHEV_OBJECT, 32, 5, RUDOZHEV_FULL_MASK);
@@ -240,6 +272,8 @@ int main(void) {
     hypercalls();
     reasons();
     refusals();
+    HOLDS(boot(&tables));
+    root_pages();
     HOLDS(boot(&tables));
     depth();
     HOLDS(boot(&tables));

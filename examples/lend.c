@@ -1,6 +1,6 @@
-/* Lends I/O ports to a domain by a message, asks what was lent out, and takes
- * it back; then shows what is to be done with damaged tables. Prints what it
- * sees, and ends with a failure where a call is refused that should not be. */
+/* Asks what boot lent out; lends I/O ports to a domain by a message, asks what was
+ * lent out, and takes it back; then shows what is to be done with damaged tables. Prints
+ * what it sees, and ends with a failure where a call is refused that should not be. */
 #include "rudozhev.h"
 
 #include <inttypes.h>
@@ -129,6 +129,7 @@ int main(void) {
     const uint32_t port_of_root = rudozhev_place(1, RUDOZHEV_IO, 32);
 
     boot();
+    count("the hypervisor's information page", rudozhev_place(0, RUDOZHEV_MEMORY, RUDOZHEV_INFORMATION_PAGE));
     make_partners();
     uint32_t taken = lend(TO_SECOND, eight, rudozhev_delegation(32, true), everything);
     printf("the root takes %" PRIu32 " ports of the hypervisor\n", taken);

@@ -77,6 +77,12 @@ enum {
     RUDOZHEV_ROOT_SC_SELECTOR = 34
 };
 
+/* The pages that boot lends from the hypervisor to the root, each at the selector of its number in both. */
+enum {
+    RUDOZHEV_ROOT_UTCB_PAGE = 62,  /* the UTCB of the root's EC, to read and write */
+    RUDOZHEV_INFORMATION_PAGE = 63 /* what the hypervisor tells of the machine, to read */
+};
+
 /* Statuses. All but SUCCESS leave every word of tables, blocks and lists as it was. */
 enum {
     RUDOZHEV_SUCCESS = 0,

@@ -1,12 +1,13 @@
 //! The tables as they stand at boot.
 
+use crate::calls::delegate;
 use crate::layout::{
     CPUS, DOMAIN_PLACES, FRAMES, INTERRUPTS, OBJECTS, OBJECT_WIDTH, PLACE_WIDTH, SPACE_START,
 };
 use crate::status::{Reply, Status};
 use crate::tables::{
     Capability, Domain, ObjectKind, ObjectRow, Place, PlaceRow, Selector, Space, Tables, FREE,
-    IO_PERMISSIONS, MEMORY_PERMISSIONS, NULL_PLACE, OBJECT_PERMISSIONS,
+    IO_PERMISSIONS, MEMORY_PERMISSIONS, NULL_PLACE, OBJECT_PERMISSIONS, READ_PAGE, WRITE_PAGE,
 };
 
 /// The first object after the idle scheduling contexts and interrupt semaphores: the root PD.
@@ -16,6 +17,19 @@ pub const ROOT_SC: u32 = ROOT_PD + 2;
 
 /// Root selector of the root PD; the root EC and the root SC follow it.
 pub const ROOT_SELECTOR: u32 = 32;
+
+/// The page that tells the root about the machine: the last one.
+pub const INFORMATION_PAGE: u32 = FRAMES - 1;
+
+/// The page of the root EC's UTCB, just below the information page.
+pub const UTCB_PAGE: u32 = INFORMATION_PAGE - 1;
+
+/// The pages that domain 0 lends the root at boot, with the masks; the root has them at the
+/// same selectors.
+const LENT_PAGES: [(u32, u32); 2] = [
+    (UTCB_PAGE, READ_PAGE | WRITE_PAGE),
+    (INFORMATION_PAGE, READ_PAGE),
+];
 
 /// Places of domain 0.
 pub const HYPERVISOR_PLACES: usize = DOMAIN_PLACES as usize;
@@ -78,6 +92,7 @@ pub fn boot(places: &mut [u32], objects: &mut [u32]) -> Reply {
     tables.places.fill(NULL_PLACE);
     tables.places[..HYPERVISOR_PLACES].copy_from_slice(&BOOT_HYPERVISOR);
     tables.objects.copy_from_slice(&BOOT_OBJECTS);
+    lend_pages(&mut tables);
     for (offset, kind) in [ObjectKind::Pd, ObjectKind::Ec, ObjectKind::Sc]
         .into_iter()
         .enumerate()
@@ -96,4 +111,14 @@ pub fn boot(places: &mut [u32], objects: &mut [u32]) -> Reply {
         );
     }
     Reply::success(0)
+}
+
+/// Delegates the root's two pages from domain 0.
+fn lend_pages(tables: &mut Tables) {
+    for (page, mask) in LENT_PAGES {
+        let selector = Selector::wrapped(page, Space::Memory);
+        let [source, destination] = [Domain::HYPERVISOR, Domain::ROOT]
+            .map(|domain| Place::new(domain, Space::Memory, selector));
+        delegate(tables, source, destination, mask);
+    }
 }

@@ -290,7 +290,7 @@ fn create_sm(
 }
 
 /// Delegates one place to another; says whether the destination was filled.
-fn delegate(tables: &mut Tables, source: Place, destination: Place, mask: u32) -> bool {
+pub(crate) fn delegate(tables: &mut Tables, source: Place, destination: Place, mask: u32) -> bool {
     let Some(held) = tables.capability(source) else {
         return false;
     };

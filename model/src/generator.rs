@@ -2,7 +2,7 @@
 //! is made, so that calls name places that are live, portals that can be
 //! called and ranges that have ancestors; a share of them is then spoilt.
 
-use crate::boot::{ROOT_EC, ROOT_SELECTOR};
+use crate::boot::{INFORMATION_PAGE, ROOT_EC, ROOT_SELECTOR, UTCB_PAGE};
 use crate::calls::Hypercall;
 use crate::descriptor::{Descriptor, FULL_MASK};
 use crate::journal::{body_bytes, Machine, Record};
@@ -33,10 +33,13 @@ pub enum Kind {
     Within,
     /// Messages with null items, for every reason and for several at once.
     Null,
+    /// The pages that boot lends the root: handed on, shown to it again, revoked, asked for
+    /// again and looked up.
+    Pages,
 }
 
 impl Kind {
-    pub const ALL: [Kind; 8] = [
+    pub const ALL: [Kind; 9] = [
         Kind::Mixed,
         Kind::Deep,
         Kind::Full,
@@ -45,6 +48,7 @@ impl Kind {
         Kind::Flagged,
         Kind::Within,
         Kind::Null,
+        Kind::Pages,
     ];
 
     pub const fn name(self) -> &'static str {
@@ -57,6 +61,7 @@ impl Kind {
             Kind::Flagged => "flagged",
             Kind::Within => "within",
             Kind::Null => "null",
+            Kind::Pages => "pages",
         }
     }
 
@@ -87,6 +92,7 @@ pub fn journal(kind: Kind, seed: u64, records: usize) -> Vec<u8> {
         Kind::Junk => {}
         Kind::Spent | Kind::Within => generator.settle(1, 0),
         Kind::Flagged | Kind::Null => generator.settle(3, 0),
+        Kind::Pages => generator.settle(2, 0),
     }
     while generator.left > 0 {
         generator.step(kind);
@@ -802,6 +808,51 @@ impl Generator {
         record
     }
 
+    /// One of the pages that boot lends the root, and a descriptor of it or of both.
+    fn lent_pages(&mut self, mask: u32) -> (u32, u32) {
+        let pages = [UTCB_PAGE, INFORMATION_PAGE];
+        let page = self.random.pick(&pages).unwrap_or(UTCB_PAGE);
+        let order = self.random.below(2);
+        (page, self.around(Space::Memory, page, order, mask))
+    }
+
+    /// A CALL of the root that hands its pages on, or asks domain 0 for them again.
+    fn call_with_pages(&mut self) -> Record {
+        let portals = self.portals(ROOT);
+        let Some((portal, callee)) = self.random.pick(&portals) else {
+            return self.portal_to_be();
+        };
+        let null = self.selectors(callee.domain, Space::Memory, false);
+        let mut items: Vec<Item> = Vec::new();
+        for _ in 0..1 + self.random.below(3) {
+            let mask = self.mask();
+            let (page, descriptor) = self.lent_pages(mask);
+            let (destination, flags) = if callee.domain == 1 && self.random.percent(75) {
+                (page, HYPERVISOR)
+            } else {
+                (self.random.pick(&null).unwrap_or(page), 0)
+            };
+            items.push((descriptor, destination << HOTSPOT_SHIFT | flags | DELEGATE));
+        }
+        let window = self.around(Space::Memory, 0, Space::Memory.order_limit(), FULL_MASK);
+        self.message(ROOT, portal, 0, window, &items)
+    }
+
+    /// A CALL that shows the root pages which another domain has from it.
+    fn show_pages(&mut self) -> Record {
+        let contexts = self.contexts().into_iter();
+        let others: Vec<Context> = contexts.filter(|context| context.domain != 1).collect();
+        let caller = self.random.pick(&others).unwrap_or(ROOT);
+        let portals = self.portals(caller).into_iter();
+        let to_root: Vec<(u32, Context)> =
+            portals.filter(|(_, callee)| callee.domain == 1).collect();
+        let Some((portal, _)) = self.random.pick(&to_root) else {
+            return self.call(false);
+        };
+        let (item, window) = self.translate_item(caller.domain, 1, Space::Memory);
+        self.message(caller, portal, window, 0, &[item])
+    }
+
     /// A mask for a REVOKE: the given one, with a permission of its space added where it has
     /// none. One mask in eight has none, and is refused.
     fn revoke_mask(&mut self, space: Space, mask: u32) -> u32 {
@@ -827,6 +878,15 @@ impl Generator {
         let mask = self.revoke_mask(space, mask);
         let descriptor = self.around(space, selector, order, mask);
         let self_word = u32::from(self.random.percent(20));
+        self.make(Hypercall::Revoke, ROOT_EC, &[descriptor, self_word])
+    }
+
+    /// A REVOKE by the root of its pages.
+    fn revoke_pages(&mut self) -> Record {
+        let mask = self.mask();
+        let mask = self.revoke_mask(Space::Memory, mask);
+        let (_, descriptor) = self.lent_pages(mask);
+        let self_word = self.random.below(2);
         self.make(Hypercall::Revoke, ROOT_EC, &[descriptor, self_word])
     }
 
@@ -862,6 +922,13 @@ impl Generator {
         let Context { number, domain, .. } = self.caller();
         let descriptor = self.some_descriptor(domain);
         self.make(Hypercall::Lookup, number, &[descriptor])
+    }
+
+    /// A LOOKUP by the root of one of its pages or of the one just below them.
+    fn lookup_pages(&mut self) -> Record {
+        let page = INFORMATION_PAGE - self.random.below(3);
+        let descriptor = self.around(Space::Memory, page, 0, FULL_MASK);
+        self.make(Hypercall::Lookup, ROOT_EC, &[descriptor])
     }
 
     fn sm_ctrl(&mut self) -> Record {
@@ -961,6 +1028,14 @@ impl Generator {
                 70..=79 => self.call(false),
                 80..=89 => self.revoke(false),
                 _ => self.lookup(),
+            },
+            Kind::Pages => match draw {
+                0..=39 => self.call_with_pages(),
+                40..=54 => self.show_pages(),
+                55..=74 => self.revoke_pages(),
+                75..=89 => self.lookup_pages(),
+                90..=94 => self.call(false),
+                _ => self.revoke(false),
             },
         };
         if self.random.percent(5) {

@@ -88,12 +88,12 @@ pub const STORED: &[(&str, Source)] = &[
         Source::Bytes(&[11, 0, 0, 0, 0, 0, 0, 0, 0, 0, 0, 0, 0]),
     ),
     ("absent.journal", Source::Absent),
-    ("revoking-1.journal", Source::Kept),
-    ("revoking-2.journal", Source::Kept),
-    ("revoking-3.journal", Source::Kept),
-    ("revoking-4.journal", Source::Kept),
-    ("revoking-5.journal", Source::Kept),
-    ("revoking-long.journal", Source::Kept),
+    ("mixed-1.journal", Source::Kept),
+    ("mixed-2.journal", Source::Kept),
+    ("mixed-3.journal", Source::Kept),
+    ("mixed-4.journal", Source::Kept),
+    ("mixed-5.journal", Source::Kept),
+    ("mixed-long.journal", Source::Kept),
     (
         "every-call-1.journal",
         Source::Generated(Kind::Mixed, 1, 200),
@@ -112,11 +112,11 @@ pub const STORED: &[(&str, Source)] = &[
     ),
     (
         "depth-limit-1.journal",
-        Source::Generated(Kind::Deep, 17, 220),
+        Source::Generated(Kind::Deep, 3, 220),
     ),
     (
         "depth-limit-2.journal",
-        Source::Generated(Kind::Deep, 25, 220),
+        Source::Generated(Kind::Deep, 5, 220),
     ),
     (
         "depth-limit-3.journal",
@@ -132,7 +132,7 @@ pub const STORED: &[(&str, Source)] = &[
     ),
     (
         "all-domains-long.journal",
-        Source::Generated(Kind::Full, 3, 2_500),
+        Source::Generated(Kind::Full, 4, 2_500),
     ),
     (
         "all-records-1.journal",
@@ -160,7 +160,7 @@ pub const STORED: &[(&str, Source)] = &[
     ),
     (
         "overlap-in-one-domain-2.journal",
-        Source::Generated(Kind::Within, 35, 200),
+        Source::Generated(Kind::Within, 4, 200),
     ),
     (
         "overlap-in-one-domain-3.journal",
@@ -173,6 +173,14 @@ pub const STORED: &[(&str, Source)] = &[
     (
         "null-items-2.journal",
         Source::Generated(Kind::Null, 26, 200),
+    ),
+    (
+        "root-pages-1.journal",
+        Source::Generated(Kind::Pages, 168, 250),
+    ),
+    (
+        "root-pages-2.journal",
+        Source::Generated(Kind::Pages, 504, 250),
     ),
     (
         "unrelated-words-1.journal",

@@ -161,6 +161,12 @@ pub const OBJECT_PERMISSIONS: [u32; 6] = [0, 31, 7, 1, 3, 3];
 /// Greatest permissions of a memory capability: read, write, execute.
 pub const MEMORY_PERMISSIONS: u32 = 7;
 
+/// Permission of a memory capability to read its page.
+pub const READ_PAGE: u32 = 1;
+
+/// Permission of a memory capability to write its page.
+pub const WRITE_PAGE: u32 = 2;
+
 /// Greatest permissions of an I/O capability.
 pub const IO_PERMISSIONS: u32 = 1;
 

@@ -54,10 +54,13 @@ fn word(space: Space, base: u32, order: u32) -> u32 {
     Descriptor::new(space, base, order, Descriptor::FULL_MASK).expect("a range").word()
 }
 
-/// Tables with seven PDs, an EC in each, and a portal of the root to domain 2's.
+/// Tables with seven PDs, an EC in each, and a portal of the root to domain 2's. The
+/// root has given up the pages that boot lends it, so that all its pages are null.
 fn furnished() -> Result<Lent, Refusal> {
     let mut tables = Tables::booted();
     let (root, pd) = (ObjectNumber::ROOT_EC, selector(32));
+    let range = Descriptor::from_word(word(Space::Memory, 62, 1));
+    tables.hypercall(root, Hypercall::Revoke { range, with_self: true })?;
     let event_base = EventBase::at(Selector::FIRST);
     for domain in 2..8 {
         let [new_pd, new_ec] = [2 * domain + 32, 2 * domain + 33].map(selector);

@@ -33,6 +33,14 @@ impl Selector {
     /// Selector 0.
     pub const FIRST: Selector = Selector(0);
 
+    /// The UTCB of the root's execution context: a page that boot lends to the root,
+    /// to read and write, at this selector in the hypervisor's memory and the root's.
+    pub const ROOT_UTCB_PAGE: Selector = Selector(62);
+
+    /// The information page, which boot lends to the root to read, at this
+    /// selector in the hypervisor's memory and the root's.
+    pub const INFORMATION_PAGE: Selector = Selector(63);
+
     /// The selector with this number, if it is below 64.
     pub const fn new(number: u32) -> Option<Selector> {
         if number < SELECTORS {

@@ -77,10 +77,45 @@ fn boot_makes_sound_tables() {
     let page = Place::new(Domain::HYPERVISOR, Space::Memory, selector(63));
     let held = Capability { resource: 63, permissions: 7, parent: None, depth: 0 };
     assert_eq!(tables.capability(page), Some(held));
-    assert_eq!(tables.capability(Place::new(Domain::ROOT, Space::Memory, selector(63))), None);
     let zeroed = Damage { rule: 2, at: Location::Record(object(0)) };
     assert!(!Tables::zeroed().is_sound());
     assert_eq!(Tables::zeroed().damage(), Some(zeroed));
+}
+
+#[test]
+fn boot_lends_two_pages_to_the_root() -> Result<(), Refusal> {
+    let booted = Tables::booted();
+    for (page, permissions, answer) in
+        [(Selector::ROOT_UTCB_PAGE, 3, 253_965), (Selector::INFORMATION_PAGE, 1, 258_053)]
+    {
+        let mut tables = booted.clone();
+        let [lender, own] = [Domain::HYPERVISOR, Domain::ROOT]
+            .map(|domain| Place::new(domain, Space::Memory, page));
+        let resource = page.number();
+        let lent = Capability { resource, permissions, parent: Some(lender), depth: 1 };
+        assert_eq!(tables.capability(own), Some(lent));
+        let there = range(Space::Memory, page.number(), 0, Descriptor::FULL_MASK);
+        assert_eq!(tables.lookup(ROOT_EC, there)?.map(Descriptor::word), Some(answer));
+        assert!(tables.census(lender, &mut [0; 2])?.eq([own]));
+
+        // Nothing came from the root's page; with self the root alone loses it.
+        tables.hypercall(ROOT_EC, Hypercall::Revoke { range: there, with_self: false })?;
+        assert!(tables == booted);
+        tables.hypercall(ROOT_EC, Hypercall::Revoke { range: there, with_self: true })?;
+        let mut places = *booted.place_words();
+        places[4 * own.number() as usize..][..4].fill(0);
+        assert!(tables == Tables::from_words(places, *booted.object_words()));
+        assert!(tables.is_sound());
+        assert_eq!(tables.lookup(ROOT_EC, there)?, None);
+        assert_eq!(tables.census(lender, &mut [])?.count(), 0);
+    }
+    for number in 0..62 {
+        assert_eq!(
+            booted.capability(Place::new(Domain::ROOT, Space::Memory, selector(number))),
+            None
+        );
+    }
+    Ok(())
 }
 
 #[test]

@@ -6,15 +6,15 @@ use mathlib.Core.List.{[], _∷_}
 use lib.Dec.{eqb, leb, ltb}
 use borrow.Author.Tests.{lt-ltb, le-ltb, eq-eqb, ne-eqb, leb-true, ltb-true}
 use native.Mathlib.Omega.{arith}
-use Rattle.words.specs.Sizes.{object, records, domainOf, spaceOf, selectorOf}
+use Rattle.words.specs.Sizes.{memory, object, records, placeOf, domainOf, spaceOf, selectorOf}
 use Rattle.layout.specs.declared.ObjectNumber.{ObjectNumber}
 use Rattle.layout.specs.declared.FoundObject.{FoundObject}
 use Rattle.layout.specs.declared.FoundObject.the-variants.{Numbered, Beyond}
-use Rattle.layout.specs.Numbers.{numbered}
+use Rattle.layout.specs.Numbers.{linkOf, numbered}
 use Rattle.layout.proofs.NumberLaws.{numbered-so}
 use Rattle.interface.specs.Basics.{if_then_else_, word}
 use Rattle.interface.specs.Places.{Cap, nothing, parentless, free, PD, EC, SC, SM, kindWord, greatest}
-use Rattle.interface.specs.Boot.{hypervisor, root, cpus, rootPd, rootEc, rootSc, rootObjects, exc, rootPriority, rootQuantum, noEc, bootRecord, bootObject, hypervisorCap, rootCap, bootCap}
+use Rattle.interface.specs.Boot.{hypervisor, root, cpus, rootPd, rootEc, rootSc, rootObjects, exc, rootPriority, rootQuantum, noEc, informationPage, informationPermissions, utcbPage, utcbPermissions, bootRecord, bootObject, hypervisorCap, lentToRoot, rootMemory, rootCap, bootCap}
 use Rattle.interface.proofs.Basics.BoolLaws.{cases, and-left, and-right}
 use Rattle.objects.specs.declared.Record.{Record}
 use Rattle.objects.specs.Records.{wordsOf}
@@ -117,20 +117,43 @@ module _ (space selector : ℕ) (cap : Cap) where
       let small : selector < records = omega (arith, ltb-true selector rootPd t) in rw t (rw (is-found, t, held-numbered selector small) at e))
       (λ (f : ltb selector rootPd ≡ false). rw f (rw (is-found, f) at e)))
 
-  pub root-elsewhere : (space ≡ object → ⊥) → cap ≡ nothing → cap ≡ rootCap space selector
-  unfolding rootCap
-  root-elsewhere n e = rw (ne-eqb space object n) e
-
   pub root-held : (found : FoundObject) → space ≡ object → found ≡ rootObject selector → cap ≡ heldCap found → cap ≡ rootCap space selector
   unfolding rootCap rootObject heldCap
   root-held found is-object is-found e =
       let test = leb exc selector && ltb selector (exc + rootObjects) in
-      rw (eq-eqb space object is-object)
+      rw is-object
       (cases test
       (λ (t : test ≡ true).
       let small : rootPd + (selector - exc) < records = omega (arith, ltb-true selector (exc + rootObjects) (and-right (leb exc selector) (ltb selector (exc + rootObjects)) t)) in
       rw t (rw (is-found, t, held-numbered (rootPd + (selector - exc)) small) at e))
       (λ (f : test ≡ false). rw f (rw (is-found, f) at e)))
+
+  pub root-in-memory : space ≡ memory → cap ≡ rootMemory selector → cap ≡ rootCap space selector
+  unfolding rootCap
+  root-in-memory is-memory e = rw is-memory e
+
+  pub root-elsewhere : (space ≡ object → ⊥) → (space ≡ memory → ⊥) → cap ≡ nothing → cap ≡ rootCap space selector
+  unfolding rootCap
+  root-elsewhere n m e = rw (ne-eqb space object n, ne-eqb space memory m) e
+
+-- the root's pages, by a selector's number as the code reads it
+module _ (selector page : ℕ) (is-page : page ≡ selector) where
+  pub lent-page : (permissions place parent : ℕ) → place ≡ placeOf hypervisor memory selector → parent ≡ linkOf place →
+      _≡_ {A = Cap} (record { resource = page; permissions = permissions; parent = parent; depth = 1 }) (lentToRoot selector permissions)
+  lent-page permissions place parent is-place is-parent = rw (is-page, is-parent, is-place)
+
+  module _ (cap : Cap) where
+    pub information-lent : page ≡ informationPage → cap ≡ lentToRoot selector informationPermissions → cap ≡ rootMemory selector
+    unfolding rootMemory
+    information-lent t e = rw (← is-page, eq-eqb page informationPage t) (rw (← is-page) at e)
+
+    pub utcb-lent : (page ≡ informationPage → ⊥) → page ≡ utcbPage → cap ≡ lentToRoot selector utcbPermissions → cap ≡ rootMemory selector
+    unfolding rootMemory
+    utcb-lent n t e = rw (← is-page, ne-eqb page informationPage n, eq-eqb page utcbPage t) (rw (← is-page) at e)
+
+    pub none-lent : (page ≡ informationPage → ⊥) → (page ≡ utcbPage → ⊥) → cap ≡ nothing → cap ≡ rootMemory selector
+    unfolding rootMemory
+    none-lent n m e = rw (← is-page, ne-eqb page informationPage n, ne-eqb page utcbPage m) e
 
 -- the capability of a place, by its domain, space and selector as the code reads them
 module _ (place domain : ℕ) (cap : Cap) (is-domain : domain ≡ domainOf place) where

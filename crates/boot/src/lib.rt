@@ -1,8 +1,10 @@
 // Boot: the tables as they are when the controller starts.
 ghost use mathlib.Core.Path.{_≡_};
+ghost use Prim.Native.Nat.{_<_};
+ghost use Rattle.words.specs.Sizes.{memory, selectors};
 ghost use Rattle.interface.specs.Basics.{word};
 ghost use Rattle.interface.specs.Places.{nothing, sized, capTable, recordTable};
-ghost use Rattle.interface.specs.Boot.{bootRecord, bootObject, hypervisorCap, rootCap, bootCap};
+ghost use Rattle.interface.specs.Boot.{bootRecord, bootObject, hypervisorCap, lentToRoot, rootMemory, rootCap, bootCap};
 ghost use Rattle.interface.specs.Outcomes.{Booted};
 ghost use Rattle.places.specs.Table.{Sized as SizedPlaces};
 ghost use Rattle.objects.specs.Records.{Sized as SizedObjects, wordsOf};
@@ -29,6 +31,15 @@ pub const ROOT_SC: u32 = ROOT_PD + 2;
 const ROOT_OBJECTS: u32 = 3;
 
 pub const EXC: u32 = 32;
+
+// The root's two pages, each at the selector of its own number: the information page, which it may read, and just below it the UTCB of its EC, which it may also write.
+const INFORMATION_PAGE: u32 = 63;
+
+const INFORMATION_PERMISSIONS: u32 = 1;
+
+const UTCB_PAGE: u32 = 62;
+
+const UTCB_PERMISSIONS: u32 = 3;
 
 // The root SC's priority and quantum.
 pub const ROOT_PRIORITY: u32 = 1;
@@ -124,14 +135,45 @@ fn hypervisor_cap(space: u32, selector: Selector) -> Cap
     held(hypervisor_object(selector))
 }
 
+// A page as the root holds it at boot: domain 0's place of the same selector is its parent.
+fn lent_to_root(selector: Selector, permissions: u32) -> Cap
+    requires { ⌜ selector .0 < selectors memory ⌝ }
+    ensures { λ r. ⌜ r ≡ lentToRoot (selector .0) permissions ⌝ }
+{
+    let parent = Place::of(places::HYPERVISOR, sizes::MEMORY, selector);
+    Cap {
+        resource: selector.number(),
+        permissions,
+        parent: parent.link(),
+        depth: 1,
+    }
+}
+
+// What the root holds in memory at boot.
+fn root_memory(selector: Selector) -> Cap
+    ensures { λ r. ⌜ r ≡ rootMemory (selector .0) ⌝ }
+{
+    let page = selector.number();
+    if page == INFORMATION_PAGE {
+        return lent_to_root(selector, INFORMATION_PERMISSIONS);
+    }
+    if page == UTCB_PAGE {
+        return lent_to_root(selector, UTCB_PERMISSIONS);
+    }
+    null_cap()
+}
+
 // What the root holds at boot.
 fn root_cap(space: u32, selector: Selector) -> Cap
     ensures { λ r. ⌜ r ≡ rootCap space (selector .0) ⌝ }
 {
-    if space != sizes::OBJECT {
-        return null_cap();
+    if space == sizes::OBJECT {
+        return held(root_object(selector));
     }
-    held(root_object(selector))
+    if space == sizes::MEMORY {
+        return root_memory(selector);
+    }
+    null_cap()
 }
 
 // What a place holds at boot.

@@ -3,7 +3,7 @@ use Prim.Native.Nat.{ℕ, _+_, _-_}
 use mathlib.Core.Bool.{_&&_}
 use mathlib.Core.List.{List, [], _∷_}
 use lib.Dec.{eqb, leb, ltb}
-use Rattle.words.specs.Sizes.{object, domainOf, spaceOf, selectorOf, records}
+use Rattle.words.specs.Sizes.{memory, object, placeOf, domainOf, spaceOf, selectorOf, records}
 use Rattle.interface.specs.Basics.{if_then_else_, word}
 use Rattle.interface.specs.Places.{Cap, State, nothing, parentless, free, PD, EC, SC, SM, kindWord, greatest}
 
@@ -38,6 +38,19 @@ rootObjects = 3
 abbrev pub exc : ℕ
 exc = 32
 
+-- the root's two pages, each at the selector of its own number: the information page, which it may read, and just below it the UTCB of its EC, which it may also write
+abbrev pub informationPage : ℕ
+informationPage = 63
+
+abbrev pub informationPermissions : ℕ
+informationPermissions = 1
+
+abbrev pub utcbPage : ℕ
+utcbPage = 62
+
+abbrev pub utcbPermissions : ℕ
+utcbPermissions = 3
+
 -- the root SC's priority and quantum
 abbrev pub rootPriority : ℕ
 rootPriority = 1
@@ -70,10 +83,23 @@ hypervisorCap space selector =
     if ltb selector rootPd then bootObject selector else
     nothing
 
--- what the root holds at boot: its PD, EC and SC
+-- a page as the root holds it at boot: its parent is domain 0's place of the same selector, and its depth one more than that place's
+abbrev pub lentToRoot : ℕ → ℕ → Cap
+lentToRoot page permissions = record { resource = page; permissions = permissions; parent = placeOf hypervisor memory page + 1; depth = 1 }
+
+-- what the root holds in memory at boot: the information page and the UTCB of its EC
+unfoldable pub rootMemory : ℕ → Cap
+rootMemory selector =
+    if eqb selector informationPage then lentToRoot selector informationPermissions else
+    if eqb selector utcbPage then lentToRoot selector utcbPermissions else
+    nothing
+
+-- what the root holds at boot: its PD, EC and SC, and its two pages
 unfoldable pub rootCap : ℕ → ℕ → Cap
 rootCap space selector =
-    if eqb space object && leb exc selector && ltb selector (exc + rootObjects) then bootObject (rootPd + (selector - exc)) else nothing
+    if eqb space object && leb exc selector && ltb selector (exc + rootObjects) then bootObject (rootPd + (selector - exc)) else
+    if eqb space memory then rootMemory selector else
+    nothing
 
 -- what each place shows at boot
 unfoldable pub bootCap : ℕ → Cap

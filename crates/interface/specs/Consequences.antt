@@ -14,7 +14,7 @@ use Rattle.descriptor.specs.declared.Reading.{Reading}
 use Rattle.descriptor.specs.declared.Reading.the-variants.{Null, Malformed, Good}
 use Rattle.reply.specs.declared.Reply.the-variants.{Success, Damaged}
 use Rattle.interface.specs.Basics.{if_then_else_, word}
-use Rattle.interface.specs.Places.{Cap, State, Tables, live, shown, parentless, free, PD, EC, SC, PT, SM, domainWord, ecWord, kindOf, greatestOf, objectPlace, objectIn}
+use Rattle.interface.specs.Places.{Cap, State, Tables, live, capAt, shown, parentless, free, PD, EC, SC, PT, SM, domainWord, ecWord, kindOf, greatestOf, objectPlace, objectIn}
 use Rattle.interface.specs.Boot.{hypervisor, root}
 use Rattle.interface.specs.Damage.{sound}
 use Rattle.interface.specs.RangeDescriptors.{describe, reading}
@@ -46,6 +46,11 @@ pub record RefusedStays : Type 0 where
       (hypercallTables tables c ≡ tables) × (hypercallBlock tables c ≡ c .target)
   pub census-stays : (tables : Tables) (place : ℕ) (list : List ℕ) → (statusOf (censusOf tables place list .reply) ≡ 0 → ⊥) →
       censusOf tables place list .list ≡ list
+
+-- No event changes a place of domain 0, whatever the tables are
+abbrev pub HypervisorStays : Type 0
+HypervisorStays =
+    (tables : Tables) (event : Event) (place : ℕ) → domainOf place ≡ hypervisor → capAt (tablesAfter tables event .places) place ≡ capAt (tables .places) place
 
 -- No call but CALL changes a word of the callee's block, whether it is granted or refused
 abbrev pub BlocksStay : Type 0

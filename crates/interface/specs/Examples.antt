@@ -65,13 +65,13 @@ lineAfter self = run (cuts hypervisor self (reading (wordOf (typeOf memory) 2 0 
 abbrev pub linePermissions : State → List ℕ
 linePermissions s = s .caps 0 .permissions ∷ s .caps 1 .permissions ∷ s .caps 2 .permissions ∷ []
 
--- the root's LOOKUP of an object selector after boot
-abbrev pub rootLookup : ℕ → Call
-rootLookup selector =
+-- the root's LOOKUP of a selector in a space after boot
+abbrev pub rootLookup : ℕ → ℕ → Call
+rootLookup space selector =
     record {
       number = LOOKUP;
       caller = rootEc;
-      first = wordOf (typeOf object) 0 0 selector;
+      first = wordOf (typeOf space) 0 0 selector;
       second = 0;
       third = 0;
       fourth = 0;
@@ -180,9 +180,13 @@ WorkedExamples =
     ∷ (lineAfter false .caps 2 ≡ nothing)
     ∷ (linePermissions (lineAfter true) ≡ 5 ∷ 1 ∷ 0 ∷ [])
     ∷ (lineAfter true .caps 2 ≡ nothing)
-    ∷  -- the root's LOOKUP after boot: 131199 at 32, 0 at 35
-    (replyOf (rules boot (rootLookup 32)) ≡ Success 131199)
-    ∷ (replyOf (rules boot (rootLookup 35)) ≡ Success 0)
+    ∷  -- the root's LOOKUP of object selectors after boot: 131199 at 32, 0 at 35
+    (replyOf (rules boot (rootLookup object 32)) ≡ Success 131199)
+    ∷ (replyOf (rules boot (rootLookup object 35)) ≡ Success 0)
+    ∷  -- and of its pages: 258053 at 63, 253965 at 62, 0 at 61
+    (replyOf (rules boot (rootLookup memory 63)) ≡ Success 258053)
+    ∷ (replyOf (rules boot (rootLookup memory 62)) ≡ Success 253965)
+    ∷ (replyOf (rules boot (rootLookup memory 61)) ≡ Success 0)
     ∷  -- the line as calls, and objects' alignment and orders
     Each calledExamples
     ∷  -- the masks of REVOKE
@@ -435,6 +439,11 @@ BootNumbers =
     ∷ (bootPlace 132 ≡ 4 ∷ 3 ∷ 0 ∷ 0 ∷ [])
     ∷ (bootPlace 155 ≡ 27 ∷ 3 ∷ 0 ∷ 0 ∷ [])
     ∷ (bootPlace 156 ≡ 0 ∷ 0 ∷ 0 ∷ 0 ∷ [])
+    ∷  -- the UTCB of the root's EC and the information page, and the null places around them
+    (bootPlace 253 ≡ 0 ∷ 0 ∷ 0 ∷ 0 ∷ [])
+    ∷ (bootPlace 254 ≡ 62 ∷ 3 ∷ 63 ∷ 1 ∷ [])
+    ∷ (bootPlace 255 ≡ 63 ∷ 1 ∷ 64 ∷ 1 ∷ [])
+    ∷ (bootPlace 256 ≡ 0 ∷ 0 ∷ 0 ∷ 0 ∷ [])
     ∷  -- the root's PD, EC and SC, the null places around them, its page 0, and a place of domain 2
     (bootPlace 351 ≡ 0 ∷ 0 ∷ 0 ∷ 0 ∷ [])
     ∷ (bootPlace 352 ≡ 28 ∷ 31 ∷ 0 ∷ 0 ∷ [])

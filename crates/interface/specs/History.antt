@@ -4,11 +4,11 @@ use mathlib.Core.Bool.{Bool, false, not, _&&_, _||_}
 use mathlib.Core.List.{List, [], _∷_}
 use lib.Dec.{eqb, ltb}
 use lib.ListN.{length}
-use Rattle.words.specs.Sizes.{places}
+use Rattle.words.specs.Sizes.{memory, placeOf, domainOf, spaceOf, selectorOf, places}
 use Rattle.words.specs.Permissions.{delegated, revoked}
 use Rattle.interface.specs.Basics.{if_then_else_, word, put, putFrom, any, gather}
 use Rattle.interface.specs.Places.{Cap, State, live, nothing, kindOf, greatestOf}
-use Rattle.interface.specs.Boot.{boot, bootCap}
+use Rattle.interface.specs.Boot.{hypervisor, root, boot, bootCap}
 use Rattle.interface.specs.Effects.{Effect, give, make, hold, cut, store, chain, among, fills}
 use Rattle.interface.specs.Verdicts.{Call, effectsOf}
 use Rattle.interface.specs.Rules.{rules}
@@ -99,13 +99,18 @@ unfoldable pub noteAll : List Effect → History → History
 noteAll [] h = h
 noteAll (effect ∷ effects) h = noteAll effects (note effect h)
 
--- boot adds a filling without source for each place that it fills
+-- the filling that boot fills a place from (its number plus 1, or 0): for the root's pages the one that domain 0's place of the same selector holds, and none for any other place
+unfoldable pub bootSource : History → ℕ → ℕ
+bootSource h place =
+    if eqb (domainOf place) root && eqb (spaceOf place) memory then held h (placeOf hypervisor memory (selectorOf place)) else 0
+
+-- boot adds a filling for each place that it fills, in the order of the places
 unfoldable pub bootFillings : ℕ → History
 bootFillings zero = record { objects = boot .objects; total = 0; fillings = λ k. record { place = 0; resource = 0; permissions = 0; source = 0 } }
 bootFillings (suc place) =
     let h = bootFillings place in
     let cap = bootCap place in
-    if live cap then added h (record { place = place; resource = cap .resource; permissions = cap .permissions; source = 0 }) else h
+    if live cap then added h (record { place = place; resource = cap .resource; permissions = cap .permissions; source = bootSource h place }) else h
 
 abbrev pub bootHistory : History
 bootHistory = bootFillings places

@@ -26,5 +26,6 @@ pub mod DamageReport
 pub mod Translations
 pub mod Deliveries
 pub mod WithoutReasons
+pub mod BootLends
 pub mod Examples
 pub mod SmallCases

@@ -1,5 +1,5 @@
--- Small cases worked by hand, for the definitions that the worked examples do not reach: the history, steps, translation, why an item is null (the manual has these cases as its last
--- example), and the damage report.
+-- Small cases worked by hand, for the definitions that the worked examples do not reach: the history, steps, translation, why an item is null (14.5 of the manual), and the
+-- damage report.
 use Prim.Native.Nat.{ℕ, _+_, _-_}
 use mathlib.Core.Path.{_≡_}
 use mathlib.Core.Bool.{Bool, true, false, _&&_}
@@ -14,7 +14,7 @@ use Rattle.descriptor.specs.declared.Received.the-variants.{NullItem, Shows}
 use Rattle.reply.specs.declared.Fault.{Fault}
 use Rattle.reply.specs.declared.Fault.the-variants.{NoFault, AtRecord, AtPlace}
 use Rattle.interface.specs.Basics.{if_then_else_, word, put, listed}
-use Rattle.interface.specs.Places.{Cap, State}
+use Rattle.interface.specs.Places.{Cap, State, nothing}
 use Rattle.interface.specs.Boot.{boot, root}
 use Rattle.interface.specs.Damage.{rulesOfDamage, firstFault}
 use Rattle.interface.specs.Effects.{give, make, hold, cut, store, filled}
@@ -96,7 +96,7 @@ deepLine delegations =
 abbrev pub faultOf : State → Fault
 faultOf s = firstFault s rulesOfDamage
 
--- the faults of boot's state with one record or one place changed, and of the line above
+-- the faults of boot's state with one record, one place or two places changed, and of the line above
 abbrev pub damageCases : List (Type 0)
 damageCases =
     ( -- rule 4: an SM with a word that it does not name; and a kind above 5
@@ -123,6 +123,9 @@ damageCases =
     (faultOf (placeChanged boot 200 (record { resource = 0; permissions = 7; parent = 0; depth = 0 })) ≡ AtPlace 11 200)
     ∷ (faultOf (placeChanged boot 200 (record { resource = 0; permissions = 7; parent = 2; depth = 1 })) ≡ AtPlace 11 200)
     ∷ (faultOf (placeChanged boot 200 (record { resource = 0; permissions = 8; parent = 1; depth = 1 })) ≡ AtPlace 11 200)
+    ∷  -- rule 11: the root's page 63 with page 62 as its parent; and no damage where the root has lost both its pages
+    (faultOf (placeChanged boot 255 (record { resource = 63; permissions = 1; parent = 63; depth = 1 })) ≡ AtPlace 11 255)
+    ∷ (faultOf (placesChanged 254 255 nothing) ≡ NoFault)
     ∷  -- rule 12: a line of 32 delegations, which ends at root page 31; one of 31 is no damage
     (faultOf (deepLine 32) ≡ AtPlace 12 223)
     ∷ (faultOf (deepLine 31) ≡ NoFault)

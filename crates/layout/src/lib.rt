@@ -71,7 +71,7 @@ impl Selector {
         Selector(number)
     }
 
-    // The selector as a word of the interface: a range's or a descriptor's base, the page or port that domain 0 holds there, what is printed.
+    // The selector as a word of the interface: a range's or a descriptor's base, the page or port that boot puts there, what is printed.
     pub fn number(self) -> u32
         ensures { λ r. ⌜ r ≡ self .0 ⌝ }
     {

@@ -1,9 +1,10 @@
 // What is proved of the interface's definitions: each function promises one statement of interface/specs and does nothing, so that its proof is the statement's.
-ghost use Rattle.interface.specs.Consequences.{StaysSound, DamagedExactly, RefusedStays, BlocksStay, NothingIsNothing, AddsNoPermission, RevokesExactly, NothingLost};
+ghost use Rattle.interface.specs.Consequences.{StaysSound, DamagedExactly, RefusedStays, HypervisorStays, BlocksStay, NothingIsNothing, AddsNoPermission, RevokesExactly, NothingLost};
 ghost use Rattle.interface.specs.Refusals.{CallRefusedExactly, CreationsRefusedExactly, SmCtrlRefusedExactly, LookupRefusedExactly, RevokeRefusedExactly, CensusRefusedExactly, DispatchRefusedExactly, MalformedExactly};
 ghost use Rattle.interface.specs.Created.{CreatedExactly};
 ghost use Rattle.interface.specs.Deliveries.{DeliversItems, DeliversWords, DeliversRange};
 ghost use Rattle.interface.specs.WithoutReasons.{NothingElseChanges};
+ghost use Rattle.interface.specs.BootLends.{BootLends};
 ghost use Rattle.interface.specs.Translations.{TranslatesExactly};
 ghost use Rattle.interface.specs.DamageReport.{DamageNamed};
 ghost use Rattle.interface.specs.Demand.{LastRevokeExists, Demand3};
@@ -39,6 +40,16 @@ pub fn damage_named()
 // A refused event changes no word of tables, block or list.
 pub fn refused_stays()
     ensures { λ r. ⌜ RefusedStays ⌝ }
+{}
+
+// No event changes a place of domain 0, whatever the tables are.
+pub fn hypervisor_stays()
+    ensures { λ r. ⌜ HypervisorStays ⌝ }
+{}
+
+// Boot lends the root two pages, each from domain 0's place of the same selector, whose one heir the root's place is; where the root gives one up, nothing else changes.
+pub fn boot_lends()
+    ensures { λ r. ⌜ BootLends ⌝ }
 {}
 
 // No call but CALL changes a word of the callee's block, whether it is granted or refused.

@@ -1,6 +1,7 @@
 //! The tables that calls are measured on.
 
-use model::boot::{ROOT_EC, ROOT_SELECTOR};
+use model::boot::{ROOT_EC, ROOT_SELECTOR, UTCB_PAGE};
+use model::descriptor::{Descriptor, FULL_MASK};
 use model::generator::{journal, Kind};
 use model::journal::{Machine, Replay, Step};
 use model::layout::{
@@ -136,9 +137,12 @@ const LENT_OUT: u32 = 4;
 
 /// Tables with all domains, where in each space domain 0 lends to the root's first
 /// selector, a line goes on from there through the last domain, and at most `most`
-/// null places are filled from its end, all at `depth`, which is at least 2.
+/// null places are filled from its end, all at `depth`, which is at least 2. The root
+/// has given up the two pages that boot lends it.
 pub fn lent_out(most: usize, depth: u32) -> Lent {
     let mut lent = boot();
+    let pages = Descriptor::new(Space::Memory, UTCB_PAGE, 1, FULL_MASK).word();
+    lent.call(Hypercall::Revoke, [pages, 1, 0, 0, 0, 0]);
     for selector in ROOT_SELECTOR + 3..ROOT_SELECTOR + DOMAINS + 1 {
         lent.call(Hypercall::CreatePd, [selector, ROOT_SELECTOR, 0, 0, 0, 0]);
     }

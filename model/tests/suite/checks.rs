@@ -32,37 +32,16 @@ fn status_numbers() {
 #[test]
 fn boot_fills_the_tables() {
     let world = World::boot();
-    for selector in 0..64 {
-        assert_eq!(world.row(place(0, MEMORY, selector)), [selector, 7, 0, 0]);
-        assert_eq!(world.row(place(0, IO, selector)), [selector, 1, 0, 0]);
-        let object = match selector {
-            0..=3 => [selector, 1, 0, 0],
-            4..=27 => [selector, 3, 0, 0],
-            _ => NULL,
-        };
-        assert_eq!(world.row(place(0, OBJECT, selector)), object);
-    }
-    for number in 192..1536 {
-        let row = match number {
-            _ if number == place(1, OBJECT, 32) => [28, 31, 0, 0],
-            _ if number == place(1, OBJECT, 33) => [29, 7, 0, 0],
-            _ if number == place(1, OBJECT, 34) => [30, 1, 0, 0],
-            _ => NULL,
-        };
-        assert_eq!(world.row(number), row, "place {number}");
+    assert_eq!((world.places.len(), world.objects.len()), (6144, 320));
+    for number in 0..1536 {
+        assert_eq!(world.row(number), listed_row(number), "place {number}");
     }
     for number in 0..64 {
-        let record = match number {
-            0..=3 => [3, 64, 0, 0, 0],
-            4..=27 => [5, 0, 0, 0, 0],
-            28 => [1, 1, 0, 0, 0],
-            29 => [2, 1, 0, 0, 0],
-            30 => [3, 29, 1, 10_000, 0],
-            _ => [0; 5],
-        };
+        let record = listed_record(number);
         assert_eq!(world.record(number), record, "record {number}");
     }
-    assert_eq!((world.places.len(), world.objects.len()), (6144, 320));
+    let live = (0..1536).filter(|&number| world.row(number)[1] != 0);
+    assert_eq!(live.count(), 64 + 64 + 28 + 2 + 3);
 }
 
 #[test]
@@ -72,7 +51,7 @@ fn boot_overwrites_and_refuses_other_lengths() {
     world.objects.fill(88);
     let reply = model::boot(&mut world.places, &mut world.objects);
     assert_eq!((reply.status, reply.answer), (Status::Success, 0));
-    assert!(world == World::boot());
+    assert!(world == World::listed());
     for (places, objects) in [
         (6143, 320),
         (6148, 320),
@@ -341,12 +320,13 @@ fn revoke_checks() {
             world.refuses(REVOKE, ROOT_EC, &[descriptor, own], Status::BadPar);
         }
         let before = world.clone();
-        // The root has no pages; its SC has no permission but 1.
+        // The root's SC has no permission but 1, and none of its pages may be executed.
         for descriptor in [
             NO_DESCRIPTOR,
             ODD_NULL,
             range(OBJECT, 34, 0, 30),
-            range(MEMORY, 0, 6, 31),
+            range(MEMORY, 0, 6, 28),
+            range(MEMORY, 0, 5, 31),
         ] {
             assert_eq!(world.does(REVOKE, ROOT_EC, &[descriptor, own]), 0);
             assert!(world == before);
@@ -549,8 +529,9 @@ fn lookup_joins_equal_neighbours() {
     let mut world = World::partners();
     let look =
         |world: &mut World, selector| world.does(LOOKUP, ROOT_EC, &[range(MEMORY, selector, 0, 0)]);
-    // All pages: the whole space is one range.
+    // All pages, once the root has given up its two: the whole space is one range.
     let all = range(MEMORY, 0, 6, 31);
+    world.does(REVOKE, ROOT_EC, &[all, 1]);
     assert_eq!(
         world.gives(TO_ROOT_2, all, all, hot(0) | FROM_HYPERVISOR),
         64

@@ -313,6 +313,104 @@ fn rule_12_depth() {
 }
 
 #[test]
+fn the_manuals_examples_of_breaches() {
+    let mut cut = World::listed();
+    cut.objects.pop();
+    breaks(&cut, 1, Location::Nowhere);
+    let place_examples = [
+        (5, NULL, 2),
+        (200, [5, 0, 0, 0], 10),
+        (200, [0, 7, 0, 0], 11),
+        (200, [0, 7, 2, 1], 11),
+        (255, [63, 1, 63, 1], 11),
+    ];
+    for (number, row, rule) in place_examples {
+        let mut world = World::listed();
+        world.set_row(number, row);
+        breaks(&world, rule, Location::Place(number));
+    }
+    let record_examples = [
+        (10, [3, 29, 1, 1, 0], 3),
+        (31, [5, 0, 0, 7, 0], 4),
+        (31, [0, 9, 0, 0, 0], 5),
+        (32, [5, 0, 0, 0, 0], 5),
+        (31, [1, 3, 0, 0, 0], 6),
+        (31, [2, 0, 0, 0, 0], 7),
+        (31, [3, 29, 0, 10, 0], 8),
+        (31, [4, 28, 0, 0, 0], 9),
+    ];
+    for (number, record, rule) in record_examples {
+        let mut world = World::listed();
+        world.set_record(number, record);
+        breaks(&world, rule, Location::Record(number));
+    }
+    let mut both = World::listed();
+    both.set_row(5, NULL);
+    both.set_record(29, [2, 1, 1, 0, 0]);
+    breaks(&both, 2, Location::Record(29));
+    let mut lost = World::listed();
+    lost.set_row(254, NULL);
+    lost.set_row(255, NULL);
+    assert_eq!(report(&lost), None);
+    let mut line = World::listed();
+    line.set_row(192, [0, 7, 1, 1]);
+    for step in 1..32 {
+        line.set_row(192 + step, [0, 7, 192 + step, step + 1]);
+    }
+    breaks(&line, 12, Location::Place(223));
+}
+
+#[test]
+fn tables_in_which_the_root_lost_its_pages_are_sound() {
+    assert_eq!(report(&World::listed()), None);
+    for lost in [&[254][..], &[255], &[254, 255]] {
+        let mut world = World::listed();
+        for &number in lost {
+            world.set_row(number, NULL);
+        }
+        assert_eq!(report(&world), None, "without {lost:?}");
+        world.does(LOOKUP, ROOT_EC, &[range(MEMORY, 63, 0, 0)]);
+        world.does(CREATE_SM, ROOT_EC, &[40, 32, 0]);
+        assert!(world.heirs(61).is_empty());
+    }
+}
+
+#[test]
+fn the_roots_pages_are_tested_like_other_places() {
+    let examples = [
+        // Other permissions, or the other page.
+        (254, [62, 7, 63, 1], None),
+        (254, [62, 2, 63, 1], None),
+        (254, [63, 7, 64, 1], None),
+        (255, [63, 7, 64, 1], None),
+        (255, [62, 3, 63, 1], None),
+        // A null place with another word.
+        (254, [0, 0, 63, 1], Some(10)),
+        (255, [63, 0, 0, 0], Some(10)),
+        // No parent, or another: a port, the place itself, the other page, a null place.
+        (254, [62, 3, 0, 0], Some(11)),
+        (255, [63, 1, 0, 1], Some(11)),
+        (255, [63, 1, 128, 1], Some(11)),
+        (255, [63, 1, 256, 1], Some(11)),
+        (254, [62, 1, 256, 2], Some(11)),
+        (254, [62, 3, 64, 1], Some(11)),
+        (255, [63, 1, 254, 1], Some(11)),
+        // Another depth.
+        (254, [62, 3, 63, 0], Some(11)),
+        (255, [63, 1, 64, 2], Some(11)),
+        // A permission that no page has.
+        (255, [63, 9, 64, 1], Some(11)),
+    ];
+    for (number, row, rule) in examples {
+        let mut world = World::listed();
+        world.set_row(number, row);
+        let at = Location::Place(number);
+        let expected = rule.map(|rule| Damage { rule, at });
+        assert_eq!(report(&world), expected, "place {number}: {row:?}");
+    }
+}
+
+#[test]
 fn the_first_rule_is_reported_and_the_lowest_that_breaks_it() {
     let mut world = furnished();
     world.set_row(1535, [1, 0, 0, 0]);

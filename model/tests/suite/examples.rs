@@ -211,6 +211,24 @@ fn lookups_after_boot() {
         131_199
     );
     assert_eq!(world.does(LOOKUP, ROOT_EC, &[range(OBJECT, 35, 0, 0)]), 0);
+    // By the words themselves: selectors 32 and 35, then the pages 63, 62 and 61.
+    for (descriptor, answer) in [
+        (131_075, 131_199),
+        (143_363, 0),
+        (258_049, 258_053),
+        (253_953, 253_965),
+        (249_857, 0),
+    ] {
+        assert_eq!(world.does(LOOKUP, ROOT_EC, &[descriptor]), answer);
+    }
+}
+
+#[test]
+fn a_census_after_boot() {
+    let mut list = [0; 2];
+    let reply = World::boot().census(63, &mut list);
+    assert_eq!((reply.status, reply.answer), (Status::Success, 1));
+    assert_eq!(list, [255, 0]);
 }
 
 #[test]
@@ -338,6 +356,36 @@ fn why_an_item_is_null() {
         );
         assert!(world == before);
     }
+}
+
+/// A census that needs no more than one word: status, answer and list.
+fn short_census(world: &World, place: u32) -> (u32, u32, [u32; 1]) {
+    let mut list = [9999];
+    let reply = world.census(place, &mut list);
+    (reply.status.number(), reply.answer, list)
+}
+
+#[test]
+fn the_pages_of_the_root() {
+    let mut world = World::boot();
+    let mut expected = World::listed();
+    for (place, answer, heir) in [(63, 1, 255), (62, 1, 254), (61, 0, 9999)] {
+        assert_eq!(short_census(&world, place), (0, answer, [heir]));
+        assert!(world == expected);
+    }
+    for (descriptor, answer) in [(258_049, 258_053), (253_953, 253_965), (249_857, 0)] {
+        let reply = world.call(LOOKUP, ROOT_EC, &[descriptor]);
+        assert_eq!(reply, (0, answer));
+        assert!(world == expected);
+    }
+    assert_eq!(world.call(REVOKE, ROOT_EC, &[258_173, 0]), (0, 0));
+    assert!(world == expected);
+    assert_eq!(world.call(REVOKE, ROOT_EC, &[258_173, 1]), (0, 0));
+    expected.set_row(255, NULL);
+    assert_eq!(world.row(63), [63, 7, 0, 0]);
+    assert!(world == expected);
+    assert_eq!(short_census(&world, 63), (0, 0, [9999]));
+    assert!(world == expected);
 }
 
 #[test]

@@ -7,7 +7,7 @@ use model::journal::{Record, Replay, Step};
 use model::random::Random;
 use model::{Hypercall, Status};
 
-use crate::world::{place, range, World};
+use crate::world::{listed_row, place, range, World};
 
 /// A capability as it was once put at a place.
 struct Filling {
@@ -82,9 +82,10 @@ impl History {
             latest: vec![None; 1536],
             objects,
         };
-        for number in 0..64 {
-            history.fill(place(0, 0, number), number, 7, None);
-            history.fill(place(0, 1, number), number, 1, None);
+        for (space, permissions) in [(0, 7), (1, 1)] {
+            for number in 0..64 {
+                history.fill(place(0, space, number), number, permissions, None);
+            }
         }
         for number in 0..28 {
             history.fill(
@@ -93,6 +94,10 @@ impl History {
                 if number < 4 { 1 } else { 3 },
                 None,
             );
+        }
+        for (page, permissions) in [(62, 3), (63, 1)] {
+            let source = history.held(place(0, 0, page));
+            history.fill(place(1, 0, page), page, permissions, source);
         }
         for (number, permissions) in [(28, 31), (29, 7), (30, 1)] {
             history.fill(place(1, 2, number + 4), number, permissions, None);
@@ -594,6 +599,42 @@ fn follow_all(kind: Kind, seeds: u64, records: usize, heirs: usize) {
 }
 
 #[test]
+fn boot_adds_its_fillings_in_the_order_of_the_places() {
+    let history = History::boot();
+    let places = history.fillings.iter().map(|filling| filling.place);
+    let expected = (0..156).chain([254, 255, 352, 353, 354]);
+    assert!(places.eq(expected));
+    assert_eq!(history.fillings.len(), 161);
+}
+
+#[test]
+fn the_sources_at_boot_are_those_of_two_pages() {
+    let history = History::boot();
+    let all = history.heirs();
+    for filling in &history.fillings {
+        let source = filling.source.map(|source| history.fillings[source].place);
+        let (from, heirs) = match filling.place {
+            254 => (Some(62), vec![]),
+            255 => (Some(63), vec![]),
+            62 => (None, vec![254]),
+            63 => (None, vec![255]),
+            _ => (None, vec![]),
+        };
+        assert_eq!(source, from, "place {}", filling.place);
+        assert_eq!(all[filling.place as usize], heirs);
+    }
+    for number in 0..1536 {
+        assert_eq!(history.row(number), listed_row(number), "place {number}");
+    }
+}
+
+#[test]
+fn the_history_tells_boot() {
+    // Two heirs and no record.
+    assert_eq!(follow(&[], 1), (2, 0));
+}
+
+#[test]
 fn the_history_tells_mixed_journals() {
     follow_all(Kind::Mixed, 120, 250, 100);
 }
@@ -616,4 +657,9 @@ fn the_history_tells_junk_journals() {
 #[test]
 fn the_history_tells_journals_of_null_items() {
     follow_all(Kind::Null, 40, 250, 50);
+}
+
+#[test]
+fn the_history_tells_journals_of_the_roots_pages() {
+    follow_all(Kind::Pages, 40, 250, 50);
 }

@@ -11,9 +11,10 @@ use model::descriptor::{Descriptor, Range};
 use model::journal::{lines, lines_without_test, Machine, Record, Replay, Step};
 use model::stored::{Source, STORED};
 use model::tables::{Domain, Place, Selector, Space};
-use model::{Hypercall, Status};
+use model::{Hypercall, Reply, Status};
 
 use crate::generator::{every_status_of_every_call, refused_mask, Received};
+use crate::page_uses::PageUses;
 
 /// A file of the replay program's crate.
 pub fn replay_file(name: &str) -> PathBuf {
@@ -93,7 +94,7 @@ fn the_stored_journals_are_those_of_the_list() {
 
 /// What journals hold, each counted by record or by item.
 #[derive(Default, Debug)]
-struct Features {
+pub struct Features {
     statuses: BTreeSet<(u32, u32)>,
     records: usize,
     longest: usize,
@@ -127,6 +128,7 @@ struct Features {
     refused_masks: [[u32; 2]; 3],
     initial_ranges: u32,
     new_selector_in_initial_range: u32,
+    pub page_uses: PageUses,
 }
 
 /// An item and the window that its kind uses, in one space, between two domains.
@@ -137,12 +139,12 @@ struct Transfer {
     window: Range,
 }
 
-fn row(machine: &Machine, place: Place) -> [u32; 4] {
+pub fn row(machine: &Machine, place: Place) -> [u32; 4] {
     let start = place.number() as usize * 4;
     std::array::from_fn(|word| machine.places[start + word])
 }
 
-fn is_live(machine: &Machine, place: Place) -> bool {
+pub fn is_live(machine: &Machine, place: Place) -> bool {
     row(machine, place)[1] != 0
 }
 
@@ -151,7 +153,7 @@ fn parent(machine: &Machine, place: Place) -> Option<Place> {
 }
 
 /// The strict ancestors of a place, nearest first.
-fn ancestors(machine: &Machine, place: Place) -> impl Iterator<Item = Place> + '_ {
+pub fn ancestors(machine: &Machine, place: Place) -> impl Iterator<Item = Place> + '_ {
     std::iter::successors(parent(machine, place), |&above| parent(machine, above))
 }
 
@@ -160,7 +162,7 @@ fn domain_of(machine: &Machine, ec: u32) -> Domain {
     Domain::new(machine.objects[ec as usize * 5 + 1]).expect("a domain of sound tables")
 }
 
-fn range(word: u32) -> Option<Range> {
+pub fn range(word: u32) -> Option<Range> {
     Descriptor::from_word(word).range().ok().flatten()
 }
 
@@ -169,7 +171,7 @@ fn overlap(one: Range, other: Range) -> bool {
 }
 
 impl Features {
-    fn journal(&mut self, bytes: &[u8]) {
+    pub fn journal(&mut self, bytes: &[u8]) {
         let mut replay = Replay::new(bytes);
         let mut before = replay.machine.clone();
         let mut read = 0;
@@ -179,7 +181,7 @@ impl Features {
                     read += 1;
                     let call = replay.record.hypercall;
                     self.statuses.insert((call.number(), reply.status.number()));
-                    self.call(&before, &replay.record, reply.status, &replay.machine);
+                    self.call(&before, &replay.record, reply, &replay.machine);
                     before.clone_from(&replay.machine);
                 }
                 Step::Stopped(stop) => {
@@ -198,7 +200,8 @@ impl Features {
         self.empty += u32::from(bytes.is_empty());
     }
 
-    fn call(&mut self, before: &Machine, record: &Record, status: Status, after: &Machine) {
+    fn call(&mut self, before: &Machine, record: &Record, reply: Reply, after: &Machine) {
+        let Reply { status, answer } = reply;
         let rows = || after.objects.chunks(5);
         let used = rows().filter(|row| row[0] != 0).count();
         let domains = rows().filter(|row| row[0] == 1).count();
@@ -217,6 +220,7 @@ impl Features {
                 self.message(before, record);
             }
             (Hypercall::Revoke, Status::Success) => self.revoke(before, record, after),
+            (Hypercall::Lookup, Status::Success) => self.lookup(before, record, answer),
             _ => {}
         }
     }
@@ -305,6 +309,10 @@ impl Features {
             let is_filled = is_free && is_live(after, destination);
             let is_allowed = permissions & item.mask != 0;
             let is_moved = source != destination;
+            if is_allowed {
+                let places = [source, destination];
+                self.page_uses.delegated(before, places, is_filled);
+            }
             self.refused_at_depth_31 += u32::from(is_free && is_allowed && depth == 31);
             self.onto_a_live_place += u32::from(!is_free && is_allowed && depth < 31 && is_moved);
             self.handed_on_in_one_message += u32::from(is_filled && filled.contains(&source));
@@ -339,6 +347,9 @@ impl Features {
             ancestors(machine, item.place(sender, 0)).find(|above| above.domain() == receiver);
         let outside = nearest.is_some_and(|above| !window.covers(above.selector(), item.order));
         self.window_too_small += u32::from(outside);
+        if sender != receiver && receiver == Domain::ROOT {
+            self.page_uses.translated(machine, shown);
+        }
     }
 
     fn revoke(&mut self, before: &Machine, record: &Record, after: &Machine) {
@@ -347,6 +358,10 @@ impl Features {
             return;
         };
         let caller = domain_of(before, record.caller);
+        if caller == Domain::ROOT {
+            let with_self = self_word == 1;
+            self.page_uses.revoked(before, range, with_self, after);
+        }
         let origins: Vec<Place> = range.places(caller).collect();
         let places = (0..1536).filter_map(Place::from_number);
         for place in places.filter(|&place| row(before, place) != row(after, place)) {
@@ -356,6 +371,13 @@ impl Features {
                 self.revoked_inside_the_range += u32::from(self_word == 0);
                 self.revoked_with_self += u32::from(self_word == 1 && depth.is_none());
             }
+        }
+    }
+
+    fn lookup(&mut self, machine: &Machine, record: &Record, answer: u32) {
+        let named = range(record.arguments[0]);
+        if let (Some(named), Domain::ROOT) = (named, domain_of(machine, record.caller)) {
+            self.page_uses.looked_up(named, answer);
         }
     }
 }
@@ -421,7 +443,8 @@ fn the_stored_journals_hold_every_feature() {
     for (feature, count) in counts {
         assert!(count > 0, "no journal holds {feature}");
     }
-    for (feature, count) in all.received.counts() {
+    let counts = [all.received.counts(), all.page_uses.counts()];
+    for (feature, count) in counts.into_iter().flatten() {
         assert!(count >= 5, "{feature}: {count} times");
     }
     assert!(all.records > 10_000 && all.longest >= 3_000);
@@ -455,6 +478,10 @@ fn each_generated_journal_holds_what_its_name_says() {
             ],
             "null-items" => {
                 let counts = held.received.counts();
+                counts.into_iter().map(|(_, count)| count).collect()
+            }
+            "root-pages" => {
+                let counts = held.page_uses.counts();
                 counts.into_iter().map(|(_, count)| count).collect()
             }
             "unrelated-words" => [Status::BadPar, Status::BadCaller]

@@ -7,6 +7,8 @@ mod generator;
 mod history;
 mod journals;
 mod messages;
+mod page_uses;
+mod pages;
 mod programs;
 mod reasons;
 mod totality;

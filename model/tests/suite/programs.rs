@@ -28,7 +28,7 @@ fn run(program: &str, arguments: &[&str], input: &[u8]) -> Output {
 #[test]
 fn trace_prints_traces_or_lines() {
     let program = env!("CARGO_BIN_EXE_trace");
-    let files = ["data/revoking-1.journal", "data/revoking-2.journal"].map(replay_file);
+    let files = ["data/mixed-1.journal", "data/mixed-2.journal"].map(replay_file);
     let [first, second] = files
         .each_ref()
         .map(|file| std::fs::read(file).expect("a readable journal"));

@@ -20,6 +20,9 @@ pub const OBJECT: u32 = 2;
 pub const ROOT_EC: u32 = 29;
 pub const NULL: [u32; 4] = [0; 4];
 
+/// The pages that boot lends the root, each its own selector, with the root's permissions.
+pub const ROOT_PAGES: [(u32, u32); 2] = [(62, 3), (63, 1)];
+
 /// Bits of an item's second word.
 pub const TRANSLATE: u32 = 0;
 pub const DELEGATE: u32 = 1;
@@ -40,6 +43,34 @@ pub const fn hot(hotspot: u32) -> u32 {
 
 pub const fn place(domain: u32, space: u32, selector: u32) -> u32 {
     domain * 192 + space * 64 + selector
+}
+
+/// The words of a place after boot, as the manual lists them.
+pub const fn listed_row(place: u32) -> [u32; 4] {
+    match place {
+        0..=63 => [place, 7, 0, 0],
+        64..=127 => [place - 64, 1, 0, 0],
+        128..=131 => [place - 128, 1, 0, 0],
+        132..=155 => [place - 128, 3, 0, 0],
+        254 => [62, 3, 63, 1],
+        255 => [63, 1, 64, 1],
+        352 => [28, 31, 0, 0],
+        353 => [29, 7, 0, 0],
+        354 => [30, 1, 0, 0],
+        _ => NULL,
+    }
+}
+
+/// The words of an object record after boot, as the manual lists them.
+pub const fn listed_record(number: u32) -> [u32; 5] {
+    match number {
+        0..=3 => [3, 64, 0, 0, 0],
+        4..=27 => [5, 0, 0, 0, 0],
+        28 => [1, 1, 0, 0, 0],
+        29 => [2, 1, 0, 0, 0],
+        30 => [3, 29, 1, 10_000, 0],
+        _ => [0; 5],
+    }
 }
 
 /// The sender's block with untyped words 100, 101, .. and typed items.
@@ -90,6 +121,14 @@ impl World {
         World {
             places: machine.places.to_vec(),
             objects: machine.objects.to_vec(),
+        }
+    }
+
+    /// The tables after boot, as the manual lists them.
+    pub fn listed() -> World {
+        World {
+            places: (0..1536).flat_map(listed_row).collect(),
+            objects: (0..64).flat_map(listed_record).collect(),
         }
     }
 

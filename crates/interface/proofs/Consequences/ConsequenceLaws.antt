@@ -1,6 +1,6 @@
--- What follows from the rules for tables: sound ones stay sound, DAMAGED is answered exactly where they are not, and a refused event changes nothing.
+-- What follows from the rules for tables: sound ones stay sound, DAMAGED is answered exactly where they are not, a refused event changes nothing, and none changes domain 0.
 use Prim.Native.Nat.{ℕ, _≤_, _<_}
-use mathlib.Core.Path.{_≡_, refl, ap, _∙_}
+use mathlib.Core.Path.{_≡_, refl, sym, ap, _∙_}
 use mathlib.Core.Logic.{_↔_}
 use mathlib.Core.Bool.{Bool, true, false, true≢false}
 use mathlib.Core.List.{List, [], _∷_}
@@ -8,13 +8,13 @@ use native.Mathlib.Omega.{arith}
 use lib.Dec.{eqb}
 use lib.ListN.{List·getD-eq-default}
 use borrow.Author.Tests.{eqb-false}
-use Rattle.words.specs.Sizes.{places, records, recordWords}
+use Rattle.words.specs.Sizes.{domainOf, places, records, recordWords}
 use Rattle.reply.specs.Replies.{statusOf}
 use Rattle.reply.specs.declared.Reply.{Reply}
 use Rattle.reply.specs.declared.Reply.the-variants.{Success, BadHyp, Damaged, BadCaller}
 use Rattle.interface.specs.Basics.{if_then_else_, word, put, putFrom}
-use Rattle.interface.specs.Places.{Cap, State, Tables, parentless, kindOf, greatestOf, sized, shown, tablesOf}
-use Rattle.interface.specs.Boot.{boot}
+use Rattle.interface.specs.Places.{Cap, State, Tables, parentless, kindOf, greatestOf, sized, capAt, shown, tablesOf}
+use Rattle.interface.specs.Boot.{hypervisor, boot}
 use Rattle.interface.specs.Damage.{isEc, soundState, sound}
 use Rattle.interface.specs.Effects.{Effect, give, make, hold, cut, store, fills, handed, act, run}
 use Rattle.interface.specs.Verdicts.{Call, CALL, CREATE-PD, CREATE-EC, CREATE-SC, CREATE-PT, CREATE-SM, REVOKE, LOOKUP, SM-CTRL, Verdict, refuse, grant, deliver, require_else_then_, replyOf, effectsOf, blockOf}
@@ -27,10 +27,11 @@ use Rattle.interface.specs.Rules.{Built, rule, not-built, hypercall, cal
 use Rattle.interface.specs.Census.{CensusResult, counted, censusOf}
 use Rattle.interface.specs.History.{Event, hypercalls, counts}
 use Rattle.interface.specs.Demand.{tablesAfter, tablesAfterAll}
-use Rattle.interface.specs.Consequences.{StaysSound, DamagedExactly, RefusedStays, BlocksStay}
+use Rattle.interface.specs.Consequences.{StaysSound, DamagedExactly, RefusedStays, HypervisorStays, BlocksStay}
 use Rattle.interface.proofs.Basics.BoolLaws.{cases, one-choice, either-way}
 use Rattle.interface.proofs.Basics.PutLaws.{put-other, put-keeps, put-from-past}
 use Rattle.interface.proofs.Sound.Soundness.{sound-facts, facts-sound}
+use Rattle.interface.proofs.Sound.PlaceFacts.{boot-cap}
 use Rattle.interface.proofs.Tables.Steps.{Fits, FitInTurn}
 use Rattle.interface.proofs.Sound.RulesFit.{or-else, rules-fit}
 use Rattle.interface.proofs.History.CutLaws.{cut-nothing}
@@ -111,6 +112,11 @@ stays-sound tables (hypercalls c) h =
     let next = after (shown tables) c in
     rw fit (state-sound next (after-ends (shown tables) c (shown-ends tables fit)) (facts-sound next (after-sound (shown tables) c facts)))
 stays-sound tables (counts place list) h = h
+
+-- places of domain 0 are as at boot in sound tables
+boot-there : (tables : Tables) → sound tables ≡ true → (place : ℕ) → domainOf place ≡ hypervisor → capAt (tables .places) place ≡ boot .caps place
+boot-there tables h place at-home =
+    boot-cap (shown tables) place (sound-facts (shown tables) (sound-shown tables h) .fixed-places place (omega arith)) at-home
 
 -- boot's state ends where the tables do
 pub boot-ends : Ends boot
@@ -237,6 +243,18 @@ refused-stays =
           (either-way (λ (result : CensusResult). (statusOf (result .reply) ≡ 0 → ⊥) → result .list ≡ list) (sound tables)
           (counted (shown tables) place list) (damagedCensus list) (counted-outcome (shown tables) place list .stays) (λ n. refl));
     }
+
+-- sound tables stay sound, so domain 0's places are as at boot before and after; damaged tables stay as they are
+pub hypervisor-stays : HypervisorStays
+unfolding tablesAfter
+hypervisor-stays tables (hypercalls c) place at-home =
+    cases (sound tables)
+    (λ (t : sound tables ≡ true).
+    boot-there (hypercallTables tables c) (stays-sound tables (hypercalls c) t) place at-home ∙ sym (boot-there tables t place at-home))
+    (λ (f : sound tables ≡ false).
+    let refused : statusOf (hypercallReply tables c) ≡ 0 → ⊥ = rw (damaged-exactly .hypercall-damaged tables c .1 f) (λ e. omega arith) in
+    ap (λ (t : Tables). capAt (t .places) place) (tables-stay tables c refused))
+hypervisor-stays tables (counts place list) other at-home = refl
 
 -- a verdict that leaves the callee's block: a refusal, a grant, and a choice between two such
 record LeavesBlock (target : List ℕ) (v : Verdict) : Type 0 where

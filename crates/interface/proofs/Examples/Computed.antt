@@ -62,14 +62,15 @@ mask-examples =
     ap replyOf (revoked-at 32782) and ap replyOf (revoked-at 163843) and ap replyOf (revoked-at 163907) and ap replyOf (revoked-at 0) and ap replyOf (revoked-at 32) and tt
 
 -- the root's LOOKUP after boot
-looked-up : (selector : ℕ) → rules boot (rootLookup selector) ≡ called boot (rootLookup selector) (hypercall LOOKUP)
-looked-up selector = sound-rules boot (rootLookup selector) boot-sound
+looked-up : (space selector : ℕ) → rules boot (rootLookup space selector) ≡ called boot (rootLookup space selector) (hypercall LOOKUP)
+looked-up space selector = sound-rules boot (rootLookup space selector) boot-sound
 
 pub worked-examples : WorkedExamples
 unfolding dispatch descriptors isEc boot-tables steps listed allBelow lowest uniform largest around found lookup
 worked-examples =
     refl and refl and refl and refl and refl and refl and refl and refl and refl and refl and refl and refl and refl and refl and refl and refl and
-    ap replyOf (looked-up 32) and ap replyOf (looked-up 35) and called-examples and mask-examples and tt
+    ap replyOf (looked-up object 32) and ap replyOf (looked-up object 35) and ap replyOf (looked-up memory 63) and ap replyOf (looked-up memory 62) and
+    ap replyOf (looked-up memory 61) and called-examples and mask-examples and tt
 
 -- to unfold this is to unfold what the lines of journals on states compute by
 unfoldable journals : Unit {0}
@@ -203,6 +204,7 @@ layout-computed =
     record {
       hypercall-numbers = (refl, (refl, (refl, (refl, (refl, (refl, (refl, (refl, (refl, (refl, (refl, (refl, (refl, (refl, tt))))))))))))));
       layout-numbers = (refl, (refl, (refl, (refl, (refl, (refl, (refl, (refl, (refl, (refl, (refl, (refl, (refl, (refl, (refl, tt)))))))))))))));
-      boot-numbers = (refl, (refl, (refl, (refl, (refl, (refl, (refl, (refl, (refl, (refl, (refl, (refl, (refl, (refl, (refl, (refl, (refl, (refl, (refl, (refl, (refl, tt)))))))))))))))))))));
+      boot-numbers = refl and refl and refl and refl and refl and refl and refl and refl and refl and refl and refl and refl and refl and refl and refl and refl and refl and refl and refl and
+          refl and refl and refl and refl and refl and refl and tt;
       field-numbers = (refl, (refl, (refl, (refl, (refl, tt)))));
     }

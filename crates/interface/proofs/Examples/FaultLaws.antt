@@ -1,7 +1,8 @@
 -- The first fault of states near boot's: of one with boot's places, by its records alone; of one with boot's records, by the places among which it differs.
 use Prim.Native.Nat.{ℕ, _+_, _-_, _≤_, _<_}
 use mathlib.Core.Path.{_≡_, refl, _∙_}
-use mathlib.Core.Bool.{Bool, true, false, not}
+use mathlib.Core.Logic.{_⊎_, ⊎-elim}
+use mathlib.Core.Bool.{Bool, true, false, not, _||_}
 use mathlib.Core.List.{List, [], _∷_, _++_}
 use native.Mathlib.Omega.{arith}
 use lib.Dec.{leb, ltb}
@@ -12,10 +13,10 @@ use Rattle.reply.specs.declared.Fault.{Fault}
 use Rattle.reply.specs.declared.Fault.the-variants.{NoFault, AtRecord, AtPlace}
 use Rattle.interface.specs.Basics.{if_then_else_, lowest}
 use Rattle.interface.specs.Places.{Cap, State, live}
-use Rattle.interface.specs.Boot.{boot}
+use Rattle.interface.specs.Boot.{informationPage, utcbPage, boot}
 use Rattle.interface.specs.Damage.{Rule, fixed-record, fixed-place, hasPd, null-place, live-place, shallow, rulesOfDamage, firstFault}
 use Rattle.interface.specs.Effects.{among}
-use Rattle.interface.proofs.Basics.BoolLaws.{cases, and-right}
+use Rattle.interface.proofs.Basics.BoolLaws.{cases, and-right, or-none-left, or-none-right}
 use Rattle.interface.proofs.Basics.BelowLaws.{lowest-failure, failure-fails, below-failure, failure-at, all-hold}
 use Rattle.interface.proofs.Sound.Soundness.{OfRecords, OfPlaces, Kept, Sound, sound-facts, record-rules, trivial}
 use Rattle.interface.proofs.History.BootLaws.{boot-sound, boot-parent}
@@ -130,7 +131,8 @@ passed-after s rule kept more k = rw (passed s kept more k)
 abbrev pub placeRules : List Rule
 placeRules = take 1 rulesOfDamage ++ drop 8 rulesOfDamage
 
-module _ (caps : ℕ → Cap) (first size : ℕ) (fit : first + size ≤ places) (unchanged : (p : ℕ) → among first size p ≡ false → caps p ≡ boot .caps p) where
+module _ (caps : ℕ → Cap) (first size : ℕ) (fit : first + size ≤ places) (unchanged : (p : ℕ) → among first size p ≡ false → caps p ≡ boot .caps p)
+    (parents-apart : (among first size utcbPage || among first size informationPage) ≡ false) where
   abbrev near : State
   near = record { caps = caps; objects = boot .objects }
 
@@ -147,7 +149,14 @@ module _ (caps : ℕ → Cap) (first size : ℕ) (fit : first + size ≤ places)
   live-kept p l f =
       cases (live (boot .caps p))
       (λ (t : live (boot .caps p) ≡ true).
-      let none = boot-parent p l t in rw (unchanged p f, t, none) (rw (t, none) at (at-boot .lives p l)))
+      ⊎-elim (λ (none : boot .caps p .parent ≡ 0). rw (unchanged p f, t, none) (rw (t, none) at (at-boot .lives p l)))
+      (λ (one : (boot .caps p .parent - 1 ≡ utcbPage) ⊎ (boot .caps p .parent - 1 ≡ informationPage)).
+      let apart : among first size (boot .caps p .parent - 1) ≡ false =
+      ⊎-elim (λ (e : boot .caps p .parent - 1 ≡ utcbPage). rw e (or-none-left (among first size utcbPage) (among first size informationPage) parents-apart))
+      (λ (e : boot .caps p .parent - 1 ≡ informationPage). rw e (or-none-right (among first size utcbPage) (among first size informationPage) parents-apart)) one
+      in
+      rw (unchanged p f, t, unchanged (boot .caps p .parent - 1) apart) (rw t at (at-boot .lives p l)))
+      (boot-parent p l t))
       (λ (g : live (boot .caps p) ≡ false). rw (unchanged p f, g))
 
   shallow-kept : Others first size fit (shallow near)

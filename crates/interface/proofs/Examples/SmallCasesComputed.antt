@@ -1,13 +1,13 @@
 -- The small cases, by computation.
 use Prim.Native.Nat.{ℕ, _+_, _≤_}
 use mathlib.Core.Path.{_≡_, refl, _∙_}
-use mathlib.Core.Bool.{true, false}
+use mathlib.Core.Bool.{true, false, _||_}
 use native.Mathlib.Omega.{arith}
 use Rattle.words.specs.Sizes.{places}
 use Rattle.reply.specs.declared.Fault.the-variants.{NoFault, AtRecord}
 use Rattle.interface.specs.Basics.{put, listed, lowest}
 use Rattle.interface.specs.Places.{Cap}
-use Rattle.interface.specs.Boot.{boot}
+use Rattle.interface.specs.Boot.{informationPage, utcbPage, boot}
 use Rattle.interface.specs.Damage.{rulesOfDamage, firstFault, soundState}
 use Rattle.interface.specs.Effects.{among}
 use Rattle.interface.specs.History.{latest, standing, held, origins, placeLink, heldCap, heldAmong, cutFilling, note, noteAll, cameFrom, heir}
@@ -22,13 +22,14 @@ use Rattle.interface.proofs.Examples.Shared.{_and_, descriptors, steps,
 use Rattle.interface.proofs.Examples.FaultLaws.{recordFault, record-fault, placeFault, placeRules, place-fault}
 
 -- the first fault of boot's state with one place changed, with two, and with a line of delegations, is that of the places there
-module _ (first size : ℕ) (cap : Cap) (fit : first + size ≤ places) (is-first : among first size first ≡ true) where
+module _ (first size : ℕ) (cap : Cap) (fit : first + size ≤ places) (is-first : among first size first ≡ true)
+    (parents-apart : (among first size utcbPage || among first size informationPage) ≡ false) where
   other-place : (changed p : ℕ) → among first size changed ≡ true → among first size p ≡ false → p ≡ changed → ⊥
   other-place changed p t f e = not-both (among first size p) (rw e t) f
 
   one-changed : faultOf (placeChanged boot first cap) ≡ placeFault first size (placeChanged boot first cap) placeRules
   one-changed =
-      place-fault (put (boot .caps) first cap) first size fit (λ p f. put-other (boot .caps) first cap p (other-place first p is-first f))
+      place-fault (put (boot .caps) first cap) first size fit (λ p f. put-other (boot .caps) first cap p (other-place first p is-first f)) parents-apart
 
   two-changed : (second : ℕ) → among first size second ≡ true →
       faultOf (placesChanged first second cap) ≡ placeFault first size (placesChanged first second cap) placeRules
@@ -37,17 +38,19 @@ module _ (first size : ℕ) (cap : Cap) (fit : first + size ≤ places) (is-firs
       (λ p f.
       put-other (put (boot .caps) second cap) first cap p (other-place first p is-first f)
       ∙ put-other (boot .caps) second cap p (other-place second p is-second f))
+      parents-apart
 
 line-changed : (delegations : ℕ) → 192 + delegations ≤ places → faultOf (deepLine delegations) ≡ placeFault 192 delegations (deepLine delegations) placeRules
-line-changed delegations fit = place-fault (deepLine delegations .caps) 192 delegations fit (λ p f. rw f)
+line-changed delegations fit = place-fault (deepLine delegations .caps) 192 delegations fit (λ p f. rw f) refl
 
 damage-cases : Each damageCases
 unfolding damage-rules boot-tables put lowest recordFault placeFault
 damage-cases =
     record-fault _ _ _ refl and record-fault _ _ _ refl and record-fault _ _ _ refl and record-fault _ _ _ refl and record-fault _ _ _ refl and
     record-fault _ _ _ refl and record-fault _ _ _ refl and record-fault _ _ _ refl and record-fault _ _ _ refl and record-fault _ _ _ refl and
-    record-fault _ _ _ refl and record-fault _ _ _ refl and record-fault _ _ _ refl and record-fault _ _ _ refl and (one-changed 200 1 _ (omega arith) refl ∙ refl) and
-    (one-changed 200 1 _ (omega arith) refl ∙ refl) and (one-changed 200 1 _ (omega arith) refl ∙ refl) and (line-changed 32 (omega arith) ∙ refl) and (line-changed 31 (omega arith) ∙ refl) and tt
+    record-fault _ _ _ refl and record-fault _ _ _ refl and record-fault _ _ _ refl and record-fault _ _ _ refl and (one-changed 200 1 _ (omega arith) refl refl ∙ refl) and
+    (one-changed 200 1 _ (omega arith) refl refl ∙ refl) and (one-changed 200 1 _ (omega arith) refl refl ∙ refl) and (one-changed 255 1 _ (omega arith) refl refl ∙ refl) and
+    (two-changed 254 2 _ (omega arith) refl refl 255 refl ∙ refl) and (line-changed 32 (omega arith) ∙ refl) and (line-changed 31 (omega arith) ∙ refl) and tt
 
 -- a record that changed comes before places that did
 record-before : faultOf (recordsChanged (placesChanged 9 11 (record { resource = 9; permissions = 1; parent = 0; depth = 0 })) 2 3) ≡ AtRecord 2 2
@@ -72,4 +75,4 @@ pub small-cases : SmallCases
 unfolding small-definitions items damage-rules boot-tables put lowest recordFault placeFault
 small-cases =
     refl and refl and refl and refl and refl and refl and refl and refl and refl and refl and refl and refl and refl and refl and reason-cases and boot-faultless and
-    (two-changed 9 3 _ (omega arith) refl 11 refl ∙ refl) and record-before and record-fault _ _ _ refl and (two-changed 1000 2 _ (omega arith) refl 1001 refl ∙ refl) and damage-cases and tt
+    (two-changed 9 3 _ (omega arith) refl refl 11 refl ∙ refl) and record-before and record-fault _ _ _ refl and (two-changed 1000 2 _ (omega arith) refl refl 1001 refl ∙ refl) and damage-cases and tt

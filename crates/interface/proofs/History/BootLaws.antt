@@ -1,32 +1,53 @@
 -- Boot: its state is sound, and its history shows it.
-use Prim.Native.Nat.{ℕ, zero, suc, _≤_, _<_}
+use Prim.Native.Nat.{ℕ, zero, suc, _+_, _-_, _≤_, _<_}
 use mathlib.Core.Path.{_≡_, refl, sym, ap, _∙_}
-use mathlib.Core.Bool.{true, false, _&&_}
+use mathlib.Core.Logic.{_⊎_, inl, inr, ⊎-elim}
+use mathlib.Core.Bool.{Bool, true, false, _&&_, _||_}
 use native.Mathlib.Omega.{arith}
 use lib.Dec.{eqb, ltb, leb}
 use lib.ListN.{length, List·getD-eq-default}
-use borrow.Author.Tests.{eq-eqb, ne-eqb, eqb-true, eqb-false, lt-ltb, le-ltb, ltb-true, ltb-false, leb-true}
-use Rattle.words.specs.Sizes.{domainOf, spaceOf, places, records, recordWords}
+use borrow.Author.Tests.{eq-eqb, ne-eqb, eqb-true, eqb-false, lt-ltb, le-ltb, ltb-true, ltb-false, leb-true, le-leb}
+use Rattle.words.specs.Sizes.{memory, placeOf, domainOf, spaceOf, selectorOf, places, records, recordWords, greatestDepth}
+use Rattle.words.specs.Permissions.{delegated}
 use Rattle.interface.specs.Basics.{if_then_else_, put, allBelow}
 use Rattle.interface.specs.Places.{Cap, State, live, nothing}
-use Rattle.interface.specs.Boot.{hypervisor, root, cpus, rootPd, rootEc, rootSc, bootRecord, hypervisorCap, rootCap, bootCap, boot}
+use Rattle.interface.specs.Boot.{hypervisor, root, cpus, rootPd, rootEc, rootSc, informationPage, utcbPage, bootRecord, hypervisorCap, rootMemory, rootCap, bootCap, boot}
 use Rattle.interface.specs.Damage.{sameCap, fixed-place, null-place, shallow, soundState}
-use Rattle.interface.specs.History.{Filling, History, latest, standing, held, placeLink, heldCap, told, added, bootFillings, bootHistory}
-use Rattle.interface.proofs.Basics.BoolLaws.{cases, and-left, and-right, asked-anyway}
+use Rattle.interface.specs.Effects.{give, fills, handed, act}
+use Rattle.interface.specs.History.{Filling, History, latest, standing, held, placeLink, heldCap, told, added, note, bootSource, bootFillings, bootHistory}
+use Rattle.interface.proofs.Basics.BoolLaws.{cases, and-left, and-right, either, each-of-four, asked-anyway}
 use Rattle.interface.proofs.Basics.BelowLaws.{all-below-at, all-below}
 use Rattle.interface.proofs.Basics.PutLaws.{put-same, put-other}
 use Rattle.interface.proofs.Sound.Soundness.{tested-sound, damage-rules}
 use Rattle.interface.proofs.Sound.PlaceFacts.{same-cap, null-test}
 use Rattle.interface.proofs.Tables.TableLaws.{state-same}
-use Rattle.interface.proofs.History.NoteLaws.{Follows, null-held, added-follows}
+use Rattle.interface.proofs.History.NoteLaws.{Follows, null-held, added-follows, give-filled}
 
 -- to unfold this is to unfold what boot's tables compute by
 unfoldable pub boot-tables : Unit {0}
-unfolding bootRecord hypervisorCap rootCap bootCap
+unfolding bootRecord hypervisorCap rootMemory rootCap bootCap
 boot-tables = tt
 
--- what boot fills has no parent and depth 0, and the rest is null
-boot-shape : allBelow places (λ p. if live (bootCap p) then eqb (bootCap p .parent) 0 && eqb (bootCap p .depth) 0 else sameCap (bootCap p) nothing) ≡ true
+-- whether a place is one of the root's in memory, and domain 0's place of the same selector
+abbrev inRootMemory : ℕ → Bool
+inRootMemory p = eqb (domainOf p) root && eqb (spaceOf p) memory
+
+abbrev lender : ℕ → ℕ
+lender p = placeOf hypervisor memory (selectorOf p)
+
+-- whether a place shows what delegation makes of one of the two pages that the root gets
+abbrev lentFrom : ℕ → ℕ → Bool
+lentFrom source p =
+    (eqb source utcbPage || eqb source informationPage) && live (bootCap source) && ltb (bootCap source .depth) greatestDepth &&
+    sameCap (bootCap p) (handed (bootCap source) source (bootCap p .permissions))
+
+-- what boot fills in the root's memory is lent so, what it fills elsewhere has no parent and depth 0, and the rest is null
+abbrev shaped : ℕ → Bool
+shaped p =
+    if live (bootCap p) then (if inRootMemory p then lentFrom (lender p) p else eqb (bootCap p .parent) 0 && eqb (bootCap p .depth) 0)
+    else sameCap (bootCap p) nothing
+
+boot-shape : allBelow places shaped ≡ true
 unfolding spaceOf allBelow boot-tables
 boot-shape = refl
 
@@ -35,22 +56,61 @@ boot-short : allBelow records (λ r. leb (length (bootRecord r)) recordWords) �
 unfolding allBelow bootRecord
 boot-short = refl
 
+-- a place that is lent from another
+pub record Lent (source p : ℕ) : Type 0 where
+  pub one-of-two : (source ≡ utcbPage) ⊎ (source ≡ informationPage)
+  pub source-live : live (bootCap source) ≡ true
+  pub source-shallow : bootCap source .depth < greatestDepth
+  pub handed-on : bootCap p ≡ handed (bootCap source) source (bootCap p .permissions)
+
 module _ (p : ℕ) (l : p < places) where
-  shape : (if live (bootCap p) then eqb (bootCap p .parent) 0 && eqb (bootCap p .depth) 0 else sameCap (bootCap p) nothing) ≡ true
-  shape =
-      all-below-at places (λ p. if live (bootCap p) then eqb (bootCap p .parent) 0 && eqb (bootCap p .depth) 0 else sameCap (bootCap p) nothing)
-      boot-shape p l
-
-  pub boot-parent : live (bootCap p) ≡ true → bootCap p .parent ≡ 0
-  boot-parent t =
-      eqb-true (bootCap p .parent) 0 (and-left (eqb (bootCap p .parent) 0) (eqb (bootCap p .depth) 0) (rw t at shape))
-
-  boot-depth : live (bootCap p) ≡ true → bootCap p .depth ≡ 0
-  boot-depth t =
-      eqb-true (bootCap p .depth) 0 (and-right (eqb (bootCap p .parent) 0) (eqb (bootCap p .depth) 0) (rw t at shape))
+  shape : shaped p ≡ true
+  shape = all-below-at places shaped boot-shape p l
 
   boot-null : live (bootCap p) ≡ false → bootCap p ≡ nothing
   boot-null f = same-cap (bootCap p) nothing (rw f at shape)
+
+  module _ (alive : live (bootCap p) ≡ true) where
+    boot-lent : inRootMemory p ≡ true → Lent (lender p) p
+    boot-lent m =
+        let source = lender p in
+        let parts = each-of-four (eqb source utcbPage || eqb source informationPage) (live (bootCap source)) (ltb (bootCap source .depth) greatestDepth)
+        (sameCap (bootCap p) (handed (bootCap source) source (bootCap p .permissions))) (rw (alive, m) at shape) in
+        record {
+          one-of-two =
+              ⊎-elim (λ (e : eqb source utcbPage ≡ true). inl (eqb-true source utcbPage e)) (λ (e : eqb source informationPage ≡ true). inr (eqb-true source informationPage e))
+              (either (eqb source utcbPage) (eqb source informationPage) (parts .0));
+          source-live = parts .1;
+          source-shallow = ltb-true (bootCap source .depth) greatestDepth (parts .2);
+          handed-on = same-cap (bootCap p) (handed (bootCap source) source (bootCap p .permissions)) (parts .3);
+        }
+
+    boot-parentless : inRootMemory p ≡ false → (bootCap p .parent ≡ 0) × (bootCap p .depth ≡ 0)
+    boot-parentless f =
+        let parts = rw (alive, f) at shape in (
+          eqb-true (bootCap p .parent) 0 (and-left (eqb (bootCap p .parent) 0) (eqb (bootCap p .depth) 0) parts),
+          eqb-true (bootCap p .depth) 0 (and-right (eqb (bootCap p .parent) 0) (eqb (bootCap p .depth) 0) parts),
+        )
+
+    boot-depth : bootCap p .depth ≤ greatestDepth
+    boot-depth =
+        cases (inRootMemory p)
+        (λ (m : inRootMemory p ≡ true).
+        let lent = boot-lent m in
+        let one-more : bootCap p .depth ≡ bootCap (lender p) .depth + 1 = ap (λ (cap : Cap). cap .depth) (lent .handed-on) in
+        omega (arith, lent .source-shallow))
+        (λ (f : inRootMemory p ≡ false). omega (arith, boot-parentless f .1))
+
+    -- a place has no parent, or one of the two pages
+    pub boot-parent : (bootCap p .parent ≡ 0) ⊎ ((bootCap p .parent - 1 ≡ utcbPage) ⊎ (bootCap p .parent - 1 ≡ informationPage))
+    boot-parent =
+        cases (inRootMemory p)
+        (λ (m : inRootMemory p ≡ true).
+        let lent = boot-lent m in
+        let linked : bootCap p .parent ≡ lender p + 1 = ap (λ (cap : Cap). cap .parent) (lent .handed-on) in
+        let back : bootCap p .parent - 1 ≡ lender p = omega arith in
+        inr (rw back (lent .one-of-two)))
+        (λ (f : inRootMemory p ≡ false). inl (boot-parentless f .0))
 
 -- so its places keep the rules, of which only what live places name is left to compute
 same-self : (a : Cap) → sameCap a a ≡ true
@@ -76,7 +136,8 @@ unfolding shallow
 boot-shallow =
     all-below places (shallow boot)
     (λ p l.
-    cases (live (bootCap p)) (λ (t : live (bootCap p) ≡ true). rw (boot-depth p l t)) (λ (f : live (bootCap p) ≡ false). rw (boot-null p l f)))
+    cases (live (bootCap p)) (λ (t : live (bootCap p) ≡ true). le-leb (bootCap p .depth) greatestDepth (boot-depth p l t))
+    (λ (f : live (bootCap p) ≡ false). rw (boot-null p l f)))
 
 pub boot-sound : soundState boot ≡ true
 unfolding damage-rules boot-tables
@@ -146,36 +207,99 @@ module _ (n : ℕ) (l : n < places) (h : History) (follows : Follows h (bootBelo
   null-yet : live (told h .caps n) ≡ false
   null-yet = rw (shows n, le-ltb n n (omega arith))
 
-  abbrev first : Filling
-  first = record { place = n; resource = bootCap n .resource; permissions = bootCap n .permissions; source = 0 }
-
   objects-kept : h .objects ≡ boot .objects
   objects-kept = ap (λ (s : State). s .objects) (follows .0)
 
-  fill-one : live (bootCap n) ≡ true → Follows (added h first) (bootBelow (suc n))
-  unfolding placeLink
-  fill-one t =
-      let one =
-      added-follows h (follows .1) first (bootCap n)
-      (record {
-        null = null-held h (follows .1) n null-yet;
-        has-permissions = ltb-true 0 (bootCap n .permissions) t;
-        source-known = omega arith;
-        within-source = λ j e. absurd (omega arith);
-        place-exists = l;
-      })
-      (parentless-cap (bootCap n) (boot-parent n l t) (boot-depth n l t))
-      in (
-        one .0 ∙
-            state-same (record { caps = put (told h .caps) n (bootCap n); objects = h .objects }) (bootBelow (suc n))
-            (λ p.
-            cases (eqb p n)
-            (λ (e : eqb p n ≡ true). rw (eqb-true p n e, put-same (told h .caps) n (bootCap n), lt-ltb n (suc n) (omega arith)))
-            (λ (d : eqb p n ≡ false).
-            put-other (told h .caps) n (bootCap n) p (eqb-false p n d) ∙ shows p ∙ below-next n p (eqb-false p n d)))
-            (λ r i. ap (λ (o : ℕ → ℕ → ℕ). o r i) objects-kept),
-        one .1,
-      )
+  -- the place's filling, from a source
+  abbrev filling : ℕ → Filling
+  filling source = record { place = n; resource = bootCap n .resource; permissions = bootCap n .permissions; source = source }
+
+  -- a history that shows the place's capability besides shows one place more
+  grown : (later : History) → Follows later (record { caps = put (told h .caps) n (bootCap n); objects = h .objects }) → Follows later (bootBelow (suc n))
+  grown later one = (
+    one .0 ∙
+        state-same (record { caps = put (told h .caps) n (bootCap n); objects = h .objects }) (bootBelow (suc n))
+        (λ p.
+        cases (eqb p n)
+        (λ (e : eqb p n ≡ true). rw (eqb-true p n e, put-same (told h .caps) n (bootCap n), lt-ltb n (suc n) (omega arith)))
+        (λ (d : eqb p n ≡ false).
+        put-other (told h .caps) n (bootCap n) p (eqb-false p n d) ∙ shows p ∙ below-next n p (eqb-false p n d)))
+        (λ r i. ap (λ (o : ℕ → ℕ → ℕ). o r i) objects-kept),
+    one .1,
+  )
+
+  module _ (alive : live (bootCap n) ≡ true) where
+    fill-parentless : inRootMemory n ≡ false → Follows (added h (filling (bootSource h n))) (bootBelow (suc n))
+    unfolding placeLink bootSource
+    fill-parentless f =
+        let none = boot-parentless n l alive f in
+        rw f
+        (grown (added h (filling 0))
+        (added-follows h (follows .1) (filling 0) (bootCap n)
+        (record {
+          null = null-held h (follows .1) n null-yet;
+          has-permissions = ltb-true 0 (bootCap n .permissions) alive;
+          source-known = omega arith;
+          within-source = λ j e. absurd (omega arith);
+          place-exists = l;
+        })
+        (parentless-cap (bootCap n) (none .0) (none .1))))
+
+    module _ (in-root : inRootMemory n ≡ true) where
+      abbrev source : ℕ
+      source = lender n
+
+      abbrev mask : ℕ
+      mask = bootCap n .permissions
+
+      lent : Lent source n
+      lent = boot-lent n l alive in-root
+
+      -- the source was filled before
+      source-shows : told h .caps source ≡ bootCap source
+      source-shows =
+          let low : source ≤ informationPage =
+          ⊎-elim (λ (e : source ≡ utcbPage). omega arith) (λ (e : source ≡ informationPage). omega arith) (lent .one-of-two)
+          in
+          let there : domainOf n ≡ root = eqb-true (domainOf n) root (and-left (eqb (domainOf n) root) (eqb (spaceOf n) memory) in-root) in
+          rw (shows source, lt-ltb source n (omega arith))
+
+      left : delegated (bootCap source .permissions) mask ≡ mask
+      left = sym (ap (λ (cap : Cap). cap .permissions) (lent .handed-on))
+
+      takes : fills (told h .caps) n source mask ≡ true
+      unfolding fills
+      takes =
+          rw (
+            source-shows,
+            lent .source-live,
+            lt-ltb (bootCap source .depth) greatestDepth (lent .source-shallow),
+            null-yet,
+            left,
+            ne-eqb mask 0 (omega (arith, ltb-true 0 mask alive)),
+          )
+
+      -- so the place is filled as a delegation from the source fills it
+      noted : note (give n source mask) h ≡ added h (filling (bootSource h n))
+      unfolding note bootSource
+      noted =
+          let same-resource : bootCap source .resource ≡ bootCap n .resource = sym (ap (λ (cap : Cap). cap .resource) (lent .handed-on)) in
+          rw (takes, in-root, source-shows, left, same-resource)
+
+      acted : act (give n source mask) (told h) ≡ record { caps = put (told h .caps) n (bootCap n); objects = h .objects }
+      unfolding act
+      acted =
+          rw (takes, source-shows)
+          (λ i. record { caps = put (told h .caps) n (sym (lent .handed-on) i); objects = h .objects })
+
+      fill-lent : Follows (added h (filling (bootSource h n))) (bootBelow (suc n))
+      fill-lent =
+          let one = give-filled h (follows .1) n source mask l takes in
+          rw noted at (grown (note (give n source mask) h) (rw acted at one))
+
+    fill-one : Follows (added h (filling (bootSource h n))) (bootBelow (suc n))
+    fill-one =
+        cases (inRootMemory n) (λ (m : inRootMemory n ≡ true). fill-lent m) (λ (f : inRootMemory n ≡ false). fill-parentless f)
 
   leave-one : live (bootCap n) ≡ false → Follows h (bootBelow (suc n))
   leave-one f = (

@@ -22,7 +22,7 @@ use Rattle.interface.proofs.History.HistoryLaws.{Valid}
 use Rattle.interface.proofs.History.NoteLaws.{Follows}
 use Rattle.interface.proofs.History.Sequences.{run-sound, notes-follow}
 use Rattle.interface.proofs.History.BootLaws.{boot-sound, boot-follows}
-use Rattle.interface.proofs.History.LentOutLaws.{tables-shown, lent-out}
+use Rattle.interface.proofs.History.LentOutLaws.{told-ends, tables-shown, lent-out}
 
 -- a call leaves a sound state sound
 pub after-sound : (s : State) (c : Call) → Sound s → Sound (after s c)
@@ -41,7 +41,7 @@ from-here [] tables h e valid sound = subst (λ (t : Tables). LentOut t h) (sym 
 from-here (hypercalls c ∷ events) tables h e valid sound =
     let follows = tell-follows h c valid sound in
     from-here events (hypercallTables tables c) (tell h (hypercalls c))
-    (ap (λ (t : Tables). hypercallTables t c) e ∙ tables-shown h valid c ∙ ap tablesOf (sym (follows .0)))
+    (ap (λ (t : Tables). hypercallTables t c) e ∙ tables-shown (told h) (told-ends h valid) c ∙ ap tablesOf (sym (follows .0)))
     (follows .1)
     (subst Sound (sym (follows .0)) (after-sound (told h) c sound))
 from-here (counts place list ∷ events) tables h e valid sound = from-here events tables (tell h (counts place list)) e valid sound

@@ -14,6 +14,7 @@ use Rattle.words.proofs.PlaceLaws.{made-so}
 use Rattle.reply.specs.declared.Reply.the-variants.{Success}
 use Rattle.interface.specs.Basics.{if_then_else_, any}
 use Rattle.interface.specs.Places.{State, Tables, live, nothing, capAt, placeTable, objectTable, tablesOf}
+use Rattle.interface.specs.Damage.{soundState}
 use Rattle.interface.specs.Effects.{cut, chain, ancestors, among, below, stripped, cutCaps, act, run}
 use Rattle.interface.specs.Verdicts.{Call, grant, replyOf, blockOf}
 use Rattle.interface.specs.Revoke.{revoke}
@@ -30,6 +31,16 @@ use Rattle.interface.proofs.History.HistoryLaws.{Valid, latest-none, st
 use Rattle.interface.proofs.History.CutLaws.{below-told, stripped-none}
 use Rattle.interface.proofs.History.NoteLaws.{told-live, live-holds, cut-follows}
 use Rattle.interface.proofs.Tables.TableLaws.{Ends, tables-sized, shown-cap, shown-tables, state-sound}
+
+-- a single place is among one place exactly when it is that one
+pub among-one : (place other : ℕ) → among place 1 other ≡ eqb place other
+among-one place other =
+    same-test (among place 1 other) (eqb place other)
+    (λ t.
+    let low = leb-true place other (and-left (leb place other) (ltb other (place + 1)) t) in
+    let high = ltb-true other (place + 1) (and-right (leb place other) (ltb other (place + 1)) t) in
+    eq-eqb place other (omega arith))
+    (λ t. let e = eqb-true place other t in rw (le-leb place other (omega arith)) (lt-ltb other (place + 1) (omega arith)))
 
 module _ (h : History) (valid : Valid h) where
   -- what a history shows ends where the tables do
@@ -61,17 +72,14 @@ module _ (h : History) (valid : Valid h) where
         let here : h .fillings m .place ≡ place = held-is h valid place m holds .0 in
         same-test (among place 1 at && eqb (held h at) (suc j)) (eqb m j)
         (λ t.
-        let a : among place 1 at ≡ true = and-left (among place 1 at) (eqb (held h at) (suc j)) t in
-        let low : place ≤ at = leb-true place at (and-left (leb place at) (ltb at (place + 1)) a) in
-        let high : at < place + 1 = ltb-true at (place + 1) (and-right (leb place at) (ltb at (place + 1)) a) in
-        let same : at ≡ place = omega arith in
+        let same : place ≡ at = eqb-true place at (sym (among-one place at) ∙ and-left (among place 1 at) (eqb (held h at) (suc j)) t) in
         let e : held h at ≡ suc j = eqb-true (held h at) (suc j) (and-right (among place 1 at) (eqb (held h at) (suc j)) t) in
-        let n : suc m ≡ suc j = sym holds ∙ ap (held h) (sym same) ∙ e in
+        let n : suc m ≡ suc j = sym holds ∙ ap (held h) same ∙ e in
         eq-eqb m j (omega arith))
         (λ t.
         let e : m ≡ j = eqb-true m j t in
         let same : at ≡ place = ap (λ (k : ℕ). h .fillings k .place) (sym e) ∙ here in
-        rw (same, holds, e, le-leb place place (omega arith), lt-ltb place (place + 1) (omega arith)) (eq-eqb (suc j) (suc j) refl))
+        rw (among-one place at, same, holds, e, eq-eqb place place refl) (eq-eqb (suc j) (suc j) refl))
 
     -- a place that holds a filling is below another, and is its heir, exactly when the filling came from what that holds
     below-held : (other k : ℕ) → held h other ≡ suc k → below (told h .caps) place 1 other ≡ any (eqb m) (origins (h .fillings) k)
@@ -113,15 +121,22 @@ permissions-small s p sound l =
     (λ (t : live (s .caps p) ≡ true). omega (arith, permissions-most s p sound l t, five-bits (spaceOf p)))
     (λ (f : live (s .caps p) ≡ false). omega (arith, ltb-false 0 (s .caps p .permissions) f))
 
--- what a call does on the tables of a history is what it does on what the history shows
-module _ (h : History) (valid : Valid h) (c : Call) where
-  pub judged-shown : judged (tablesOf (told h)) c ≡ rules (told h) c
+-- what a call does on the tables of a state is what it does on the state
+module _ (state : State) (ends : Ends state) (c : Call) where
+  pub judged-shown : judged (tablesOf state) c ≡ rules state c
   unfolding judged
-  judged-shown = rw (tables-sized (told h)) (ap (λ (s : State). rules s c) (shown-tables (told h) (told-ends h valid)))
+  judged-shown = rw (tables-sized state) (ap (λ (s : State). rules s c) (shown-tables state ends))
 
-  pub tables-shown : hypercallTables (tablesOf (told h)) c ≡ tablesOf (after (told h) c)
+  pub tables-shown : hypercallTables (tablesOf state) c ≡ tablesOf (after state c)
   unfolding hypercallTables
-  tables-shown = rw (tables-sized (told h)) (ap (λ (s : State). tablesOf (after s c)) (shown-tables (told h) (told-ends h valid)))
+  tables-shown = rw (tables-sized state) (ap (λ (s : State). tablesOf (after s c)) (shown-tables state ends))
+
+-- and so is the census of the tables of a sound state
+pub census-shown : (state : State) → Ends state → soundState state ≡ true → (place : ℕ) (list : List ℕ) →
+    censusOf (tablesOf state) place list ≡ counted state place list
+unfolding censusOf
+census-shown state ends sound place list =
+    rw (state-sound state ends sound) (ap (λ (s : State). counted s place list) (shown-tables state ends))
 
 module _ (h : History) (valid : Valid h) (sound : Sound (told h)) where
   -- the tables of a history show what it shows
@@ -130,13 +145,6 @@ module _ (h : History) (valid : Valid h) (sound : Sound (told h)) where
 
   lives-held : (place : ℕ) → place < places → live (capAt (placeTable (told h)) place) ≡ ltb 0 (held h place)
   lives-held place l = rw (cap-of place) (told-live h valid place)
-
-  -- the census of the tables of a sound state is the state's
-  census-shown : (place : ℕ) (list : List ℕ) → censusOf (tablesOf (told h)) place list ≡ counted (told h) place list
-  unfolding censusOf
-  census-shown place list =
-      rw (state-sound (told h) (told-ends h valid) (facts-sound (told h) sound))
-      (ap (λ (s : State). counted s place list) (shown-tables (told h) (told-ends h valid)))
 
   found-heirs : (place : ℕ) → live (told h .caps place) ≡ true → descendants (told h .caps) place ≡ heirs h place
   unfolding descendants
@@ -184,14 +192,14 @@ module _ (h : History) (valid : Valid h) (sound : Sound (told h)) where
         subst Ends (follows .0) (told-ends (note (cut wholeMask place 1 false) h) (follows .1))
 
     reply-of : hypercallReply (tablesOf (told h)) c ≡ Success 0
-    reply-of = ap replyOf (judged-shown h valid c ∙ granted)
+    reply-of = ap replyOf (judged-shown (told h) (told-ends h valid) c ∙ granted)
 
     state-of : after (told h) c ≡ revoked-state
     unfolding after run
     state-of = rw granted
 
     tables-of : hypercallTables (tablesOf (told h)) c ≡ tablesOf revoked-state
-    tables-of = tables-shown h valid c ∙ ap tablesOf state-of
+    tables-of = tables-shown (told h) (told-ends h valid) c ∙ ap tablesOf state-of
 
     objects-of : objectTable revoked-state ≡ objectTable (told h)
     unfolding act
@@ -223,7 +231,7 @@ module _ (h : History) (valid : Valid h) (sound : Sound (told h)) where
       (λ other l.
           rw (tables-of, cap-of other) (shown-cap revoked-state revoked-ends other ∙ caps-of other l t)),
       ap (λ (x : Tables). x .objects) tables-of ∙ objects-of,
-      ap (blockOf (c .target)) (judged-shown h valid c ∙ granted),
+      ap (blockOf (c .target)) (judged-shown (told h) (told-ends h valid) c ∙ granted),
     )
 
   -- demand 3 at the tables of a history
@@ -234,7 +242,9 @@ module _ (h : History) (valid : Valid h) (sound : Sound (told h)) where
         live-held = lives-held;
         heirs-exact = λ place other. gather-member other places (heir h place);
         heirs-rise = λ place. gather-rises places (heir h place);
-        census-exact = λ place l t list enough. census-shown place list ∙ census-of place l (rw (cap-of place) at t) list enough;
+        census-exact =
+            λ place l t list enough.
+            census-shown (told h) (told-ends h valid) (facts-sound (told h) sound) place list ∙ census-of place l (rw (cap-of place) at t) list enough;
         revoke-exact =
             λ place l t c revokes.
             revoke-of place c (subst (λ (s : State). RevokesBelow s place c) (shown-tables (told h) (told-ends h valid)) revokes) (rw (cap-of place) at t);

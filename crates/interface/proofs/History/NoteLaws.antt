@@ -7,7 +7,7 @@ use native.Mathlib.Omega.{arith}
 use lib.Dec.{eqb, ltb}
 use lib.ListN.{List·getD-eq-default}
 use borrow.Author.Tests.{eqb-true, eqb-false, ltb-true, ltb-false, lt-ltb, not-true}
-use Rattle.words.specs.Sizes.{records, recordWords, greatestDepth}
+use Rattle.words.specs.Sizes.{places, records, recordWords, greatestDepth}
 use Rattle.words.specs.Permissions.{delegated}
 use Rattle.words.proofs.BitLaws.{delegated-within-source}
 use Rattle.interface.specs.Basics.{word, put, putFrom}
@@ -101,7 +101,7 @@ handed-from : (fillings : ℕ → Filling) (k source mask : ℕ) → fillings k 
 unfolding heldCap placeLink
 handed-from fillings k source mask e = rw e
 
-module _ (h : History) (valid : Valid h) (destination source mask : ℕ) (fit : GiveFits (told h) destination source)
+module _ (h : History) (valid : Valid h) (destination source mask : ℕ) (exists : destination < places)
     (takes : fills (told h .caps) destination source mask ≡ true) where
   -- the filling that a delegation adds
   abbrev given : Filling
@@ -124,7 +124,7 @@ module _ (h : History) (valid : Valid h) (destination source mask : ℕ) (fit : 
             λ j e.
             let cap : told h .caps source .permissions ≡ h .fillings j .permissions = ap (λ (link : ℕ). heldCap (h .fillings) link .permissions) e in
             rw cap (delegated-within-source (h .fillings j .permissions) mask);
-        place-exists = fit .destination-small;
+        place-exists = exists;
       }
 
   given-shows : newCap h given ≡ handed (told h .caps source) source mask
@@ -152,7 +152,7 @@ module _ (h : History) (valid : Valid h) where
       Follows (note (give destination source mask) h) (act (give destination source mask) (told h))
   unfolding note act
   give-follows destination source mask fit =
-      cases (fills (told h .caps) destination source mask) (λ (t : fills (told h .caps) destination source mask ≡ true). give-filled h valid destination source mask fit t)
+      cases (fills (told h .caps) destination source mask) (λ (t : fills (told h .caps) destination source mask ≡ true). give-filled h valid destination source mask (fit .destination-small) t)
       (λ (f : fills (told h .caps) destination source mask ≡ false). rw f (refl, valid))
 
   pub hold-follows : (place number : ℕ) → Sound (told h) → HoldFits (told h) place number → Follows (note (hold place number) h) (act (hold place number) (told h))

@@ -23,7 +23,7 @@ use Rattle.interface.proofs.Sound.Soundness.{Sound, sound-facts, facts-
 use Rattle.interface.proofs.Tables.VerdictLaws.{sound-rules, after-verdict}
 use Rattle.interface.proofs.History.HistoryLaws.{Valid}
 use Rattle.interface.proofs.History.BootLaws.{boot-sound, boot-follows}
-use Rattle.interface.proofs.History.LentOutLaws.{judged-shown, tables-shown}
+use Rattle.interface.proofs.History.LentOutLaws.{told-ends, judged-shown, tables-shown}
 use Rattle.interface.proofs.History.DemandLaws.{after-sound, tell-follows}
 
 -- a whole record: its kind is one, and its body has its length
@@ -247,9 +247,9 @@ lines-shown [] tables index h e valid sound = refl
 lines-shown (c ∷ calls) tables index h e valid sound =
     let follows = tell-follows h c valid sound in
     let ruled = sound-rules (told h) c (facts-sound (told h) sound) in
-    let verdict : judged tables c ≡ called (told h) c (hypercall (c .number)) = ap (λ (t : Tables). judged t c) e ∙ judged-shown h valid c ∙ ruled in
+    let verdict : judged tables c ≡ called (told h) c (hypercall (c .number)) = ap (λ (t : Tables). judged t c) e ∙ judged-shown (told h) (told-ends h valid) c ∙ ruled in
     let later = lines-shown calls (hypercallTables tables c) (index + 1) (tell h (hypercalls c))
-    (ap (λ (t : Tables). hypercallTables t c) e ∙ tables-shown h valid c ∙ ap tablesOf (sym (follows .0)))
+    (ap (λ (t : Tables). hypercallTables t c) e ∙ tables-shown (told h) (told-ends h valid) c ∙ ap tablesOf (sym (follows .0)))
     (follows .1)
     (subst Sound (sym (follows .0)) (after-sound (told h) c sound)) in
     rw (verdict, later, follows .0, after-verdict (told h) c (called (told h) c (hypercall (c .number))) ruled)
