@@ -57,11 +57,11 @@ unfolding allBelow bootRecord
 boot-short = refl
 
 -- a place that is lent from another
-pub record Lent (source p : ℕ) : Type 0 where
-  pub one-of-two : (source ≡ utcbPage) ⊎ (source ≡ informationPage)
-  pub source-live : live (bootCap source) ≡ true
-  pub source-shallow : bootCap source .depth < greatestDepth
-  pub handed-on : bootCap p ≡ handed (bootCap source) source (bootCap p .permissions)
+record Lent (source p : ℕ) : Type 0 where
+  one-of-two : (source ≡ utcbPage) ⊎ (source ≡ informationPage)
+  source-live : live (bootCap source) ≡ true
+  source-shallow : bootCap source .depth < greatestDepth
+  handed-on : bootCap p ≡ handed (bootCap source) source (bootCap p .permissions)
 
 module _ (p : ℕ) (l : p < places) where
   shape : shaped p ≡ true
