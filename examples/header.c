@@ -1,5 +1,6 @@
-/* Holds what the header computes against the words of the manual, and each hypercall
- * by its name against the general one. Prints the first line that differs. */
+/* Holds what the header computes, and the pages that boot lends the root, against the words
+ * of the manual, and each hypercall by its name against the general one. Prints the first
+ * line that differs. */
 #include "rudozhev.h"
 
 #include <stdio.h>
@@ -110,7 +111,7 @@ static uint32_t root_page(uint32_t page) {
     return rudozhev_answer(rudozhev_lookup(&tables, RUDOZHEV_ROOT_EC, one));
 }
 
-/* How many places have a page of the hypervisor, one at most, which is listed. */
+/* How many places have a page from the hypervisor: none, or one, which is listed. */
 static uint32_t lent_out(uint32_t page, uint32_t *heir) {
     uint64_t reply = rudozhev_census(rudozhev_place(0, RUDOZHEV_MEMORY, page), tables.places, RUDOZHEV_PLACE_WORDS,
                                      tables.objects, RUDOZHEV_OBJECT_WORDS, heir, 1);
@@ -133,7 +134,7 @@ static void root_pages(void) {
     HOLDS(root_page(UTCB) == 253965 && lent_out(UTCB, &heir) == 1);
     HOLDS(breached(0, RUDOZHEV_NOWHERE, 0, RUDOZHEV_OBJECT_WORDS));
     const uint32_t kept[RUDOZHEV_PLACE_WIDTH] = {INFORMATION, 7, 0, 0};
-    HOLDS(memcmp(tables.places + RUDOZHEV_PLACE_WIDTH * INFORMATION, kept, sizeof kept) == 0);
+    HOLDS(memcmp(tables.places + RUDOZHEV_PLACE_WIDTH * rudozhev_place(0, RUDOZHEV_MEMORY, INFORMATION), kept, sizeof kept) == 0);
 }
 
 static void hypercalls(void) {

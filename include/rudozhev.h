@@ -77,7 +77,7 @@ enum {
     RUDOZHEV_ROOT_SC_SELECTOR = 34
 };
 
-/* The pages that boot lends from the hypervisor to the root, each at the selector of its number in both. */
+/* The pages that boot lends to the root from the hypervisor, in both at the selector of the page's number. */
 enum {
     RUDOZHEV_ROOT_UTCB_PAGE = 62,  /* the UTCB of the root's EC, to read and write */
     RUDOZHEV_INFORMATION_PAGE = 63 /* what the hypervisor tells of the machine, to read */

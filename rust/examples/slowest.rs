@@ -59,7 +59,8 @@ fn word(space: Space, base: u32, order: u32) -> u32 {
 fn furnished() -> Result<Lent, Refusal> {
     let mut tables = Tables::booted();
     let (root, pd) = (ObjectNumber::ROOT_EC, selector(32));
-    let range = Descriptor::from_word(word(Space::Memory, 62, 1));
+    let pages = word(Space::Memory, Selector::ROOT_UTCB_PAGE.number(), 1);
+    let range = Descriptor::from_word(pages);
     tables.hypercall(root, Hypercall::Revoke { range, with_self: true })?;
     let event_base = EventBase::at(Selector::FIRST);
     for domain in 2..8 {

@@ -1,4 +1,5 @@
--- What else follows from the rules: what tables keep, what LOOKUP answers, what calls fill, revoke and create, what the damage report names, what the reasons of null items leave alone, and what boot lends to the root.
+-- What else follows from the rules: what tables keep, what LOOKUP answers, what calls fill, revoke and create, what the damage report names,
+-- what the reasons of null items leave alone, and what boot lends to the root.
 pub mod ConsequenceLaws
 pub mod LookupLaws
 pub mod FilledLaws

@@ -83,7 +83,7 @@ hypervisorCap space selector =
     if ltb selector rootPd then bootObject selector else
     nothing
 
--- a page as the root holds it at boot: its parent is domain 0's place of the same selector, and its depth one more than that place's
+-- a page as the root holds it at boot: its parent is domain 0's place of the same selector, and its depth is 1
 abbrev pub lentToRoot : ℕ → ℕ → Cap
 lentToRoot page permissions = record { resource = page; permissions = permissions; parent = placeOf hypervisor memory page + 1; depth = 1 }
 

@@ -47,7 +47,7 @@ pub fn hypervisor_stays()
     ensures { λ r. ⌜ HypervisorStays ⌝ }
 {}
 
-// Boot lends the root two pages, each from domain 0's place of the same selector, whose one heir the root's place is; where the root gives one up, nothing else changes.
+// Boot lends the root two pages, each from domain 0's place of the same selector, whose only heir is the root's place; where the root gives one up, nothing else changes.
 pub fn boot_lends()
     ensures { λ r. ⌜ BootLends ⌝ }
 {}

@@ -320,7 +320,8 @@ fn revoke_checks() {
             world.refuses(REVOKE, ROOT_EC, &[descriptor, own], Status::BadPar);
         }
         let before = world.clone();
-        // The root's SC has no permission but 1, and none of its pages may be executed.
+        // The root's SC has no permission but 1, none of its pages may be executed, and its pages
+        // 0 to 31 are null.
         for descriptor in [
             NO_DESCRIPTOR,
             ODD_NULL,

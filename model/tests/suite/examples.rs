@@ -206,12 +206,7 @@ fn masks_of_revocations() {
 #[test]
 fn lookups_after_boot() {
     let mut world = World::boot();
-    assert_eq!(
-        world.does(LOOKUP, ROOT_EC, &[range(OBJECT, 32, 0, 0)]),
-        131_199
-    );
-    assert_eq!(world.does(LOOKUP, ROOT_EC, &[range(OBJECT, 35, 0, 0)]), 0);
-    // By the words themselves: selectors 32 and 35, then the pages 63, 62 and 61.
+    // Selectors 32 and 35, then the pages 63, 62 and 61.
     for (descriptor, answer) in [
         (131_075, 131_199),
         (143_363, 0),
@@ -221,14 +216,6 @@ fn lookups_after_boot() {
     ] {
         assert_eq!(world.does(LOOKUP, ROOT_EC, &[descriptor]), answer);
     }
-}
-
-#[test]
-fn a_census_after_boot() {
-    let mut list = [0; 2];
-    let reply = World::boot().census(63, &mut list);
-    assert_eq!((reply.status, reply.answer), (Status::Success, 1));
-    assert_eq!(list, [255, 0]);
 }
 
 #[test]

@@ -6,7 +6,6 @@ use std::collections::BTreeSet;
 use model::descriptor::Descriptor;
 use model::generator::{journal, Kind};
 use model::journal::{lines, Record, Replay, Step};
-use model::stored::{Source, STORED};
 use model::tables::Space;
 use model::{Hypercall, Status};
 
@@ -254,33 +253,13 @@ fn null_journals_reach_every_reason_and_every_pair() {
     }
 }
 
-/// Counts below which a use of the root's pages counts as missing: in twenty long journals,
-/// and in the stored ones.
-const USES_IN_MANY: u32 = 10;
-const USES_IN_STORED: u32 = 5;
-
-/// Every use of the root's pages is made so often by these journals.
-fn use_the_roots_pages(journals: impl Iterator<Item = Vec<u8>>, least: u32) {
-    let mut held = Features::default();
-    for bytes in journals {
-        held.journal(&bytes);
-    }
-    for (name, count) in held.page_uses.counts() {
-        assert!(count >= least, "{name}: {count} times");
-    }
-}
-
 #[test]
 fn journals_of_the_roots_pages_make_every_use_of_them() {
-    let journals = (0..20).map(|seed| journal(Kind::Pages, seed, 300));
-    use_the_roots_pages(journals, USES_IN_MANY);
-}
-
-#[test]
-fn the_stored_journals_of_the_roots_pages_make_every_use_of_them() {
-    let stored = STORED.iter().filter_map(|(_, source)| match source {
-        Source::Generated(Kind::Pages, ..) => source.bytes(),
-        _ => None,
-    });
-    use_the_roots_pages(stored, USES_IN_STORED);
+    let mut held = Features::default();
+    for seed in 0..20 {
+        held.journal(&journal(Kind::Pages, seed, 300));
+    }
+    for (name, count) in held.page_uses.counts() {
+        assert!(count >= 10, "{name}: {count} times");
+    }
 }

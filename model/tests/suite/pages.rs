@@ -11,11 +11,12 @@ const BOTH: u32 = range(MEMORY, 62, 1, 31);
 const CHILD_PAGE: u32 = 5;
 const CHILD_PLACE: u32 = place(2, MEMORY, CHILD_PAGE);
 
-/// The place of the root, and of domain 0, where a page is.
+/// The root's place of a page.
 const fn own(page: u32) -> u32 {
     place(1, MEMORY, page)
 }
 
+/// Domain 0's place of a page.
 const fn origin(page: u32) -> u32 {
     place(0, MEMORY, page)
 }

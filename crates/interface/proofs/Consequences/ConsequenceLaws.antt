@@ -114,9 +114,9 @@ stays-sound tables (hypercalls c) h =
 stays-sound tables (counts place list) h = h
 
 -- places of domain 0 are as at boot in sound tables
-boot-there : (tables : Tables) → sound tables ≡ true → (place : ℕ) → domainOf place ≡ hypervisor → capAt (tables .places) place ≡ boot .caps place
-boot-there tables h place at-home =
-    boot-cap (shown tables) place (sound-facts (shown tables) (sound-shown tables h) .fixed-places place (omega arith)) at-home
+hypervisor-as-boot : (tables : Tables) → sound tables ≡ true → (place : ℕ) → domainOf place ≡ hypervisor → capAt (tables .places) place ≡ boot .caps place
+hypervisor-as-boot tables h place of-hypervisor =
+    boot-cap (shown tables) place (sound-facts (shown tables) (sound-shown tables h) .fixed-places place (omega arith)) of-hypervisor
 
 -- boot's state ends where the tables do
 pub boot-ends : Ends boot
@@ -247,14 +247,14 @@ refused-stays =
 -- sound tables stay sound, so domain 0's places are as at boot before and after; damaged tables stay as they are
 pub hypervisor-stays : HypervisorStays
 unfolding tablesAfter
-hypervisor-stays tables (hypercalls c) place at-home =
+hypervisor-stays tables (hypercalls c) place of-hypervisor =
     cases (sound tables)
     (λ (t : sound tables ≡ true).
-    boot-there (hypercallTables tables c) (stays-sound tables (hypercalls c) t) place at-home ∙ sym (boot-there tables t place at-home))
+    hypervisor-as-boot (hypercallTables tables c) (stays-sound tables (hypercalls c) t) place of-hypervisor ∙ sym (hypervisor-as-boot tables t place of-hypervisor))
     (λ (f : sound tables ≡ false).
     let refused : statusOf (hypercallReply tables c) ≡ 0 → ⊥ = rw (damaged-exactly .hypercall-damaged tables c .1 f) (λ e. omega arith) in
     ap (λ (t : Tables). capAt (t .places) place) (tables-stay tables c refused))
-hypervisor-stays tables (counts place list) other at-home = refl
+hypervisor-stays tables (counts place list) other of-hypervisor = refl
 
 -- a verdict that leaves the callee's block: a refusal, a grant, and a choice between two such
 record LeavesBlock (target : List ℕ) (v : Verdict) : Type 0 where

@@ -13,13 +13,13 @@ use Rattle.reply.specs.declared.Fault.{Fault}
 use Rattle.reply.specs.declared.Fault.the-variants.{NoFault, AtRecord, AtPlace}
 use Rattle.interface.specs.Basics.{if_then_else_, lowest}
 use Rattle.interface.specs.Places.{Cap, State, live}
-use Rattle.interface.specs.Boot.{informationPage, utcbPage, boot}
+use Rattle.interface.specs.Boot.{boot}
 use Rattle.interface.specs.Damage.{Rule, fixed-record, fixed-place, hasPd, null-place, live-place, shallow, rulesOfDamage, firstFault}
 use Rattle.interface.specs.Effects.{among}
 use Rattle.interface.proofs.Basics.BoolLaws.{cases, and-right, or-none-left, or-none-right}
 use Rattle.interface.proofs.Basics.BelowLaws.{lowest-failure, failure-fails, below-failure, failure-at, all-hold}
 use Rattle.interface.proofs.Sound.Soundness.{OfRecords, OfPlaces, Kept, Sound, sound-facts, record-rules, trivial}
-use Rattle.interface.proofs.History.BootLaws.{boot-sound, boot-parent}
+use Rattle.interface.proofs.History.BootLaws.{utcbPlace, informationPlace, boot-sound, boot-parent}
 
 abbrev at-boot : Sound boot
 at-boot = sound-facts boot boot-sound
@@ -132,7 +132,7 @@ abbrev pub placeRules : List Rule
 placeRules = take 1 rulesOfDamage ++ drop 8 rulesOfDamage
 
 module _ (caps : ℕ → Cap) (first size : ℕ) (fit : first + size ≤ places) (unchanged : (p : ℕ) → among first size p ≡ false → caps p ≡ boot .caps p)
-    (parents-apart : (among first size utcbPage || among first size informationPage) ≡ false) where
+    (parents-apart : (among first size utcbPlace || among first size informationPlace) ≡ false) where
   abbrev near : State
   near = record { caps = caps; objects = boot .objects }
 
@@ -150,10 +150,10 @@ module _ (caps : ℕ → Cap) (first size : ℕ) (fit : first + size ≤ places)
       cases (live (boot .caps p))
       (λ (t : live (boot .caps p) ≡ true).
       ⊎-elim (λ (none : boot .caps p .parent ≡ 0). rw (unchanged p f, t, none) (rw (t, none) at (at-boot .lives p l)))
-      (λ (one : (boot .caps p .parent - 1 ≡ utcbPage) ⊎ (boot .caps p .parent - 1 ≡ informationPage)).
+      (λ (one : (boot .caps p .parent - 1 ≡ utcbPlace) ⊎ (boot .caps p .parent - 1 ≡ informationPlace)).
       let apart : among first size (boot .caps p .parent - 1) ≡ false =
-      ⊎-elim (λ (e : boot .caps p .parent - 1 ≡ utcbPage). rw e (or-none-left (among first size utcbPage) (among first size informationPage) parents-apart))
-      (λ (e : boot .caps p .parent - 1 ≡ informationPage). rw e (or-none-right (among first size utcbPage) (among first size informationPage) parents-apart)) one
+      ⊎-elim (λ (e : boot .caps p .parent - 1 ≡ utcbPlace). rw e (or-none-left (among first size utcbPlace) (among first size informationPlace) parents-apart))
+      (λ (e : boot .caps p .parent - 1 ≡ informationPlace). rw e (or-none-right (among first size utcbPlace) (among first size informationPlace) parents-apart)) one
       in
       rw (unchanged p f, t, unchanged (boot .caps p .parent - 1) apart) (rw t at (at-boot .lives p l)))
       (boot-parent p l t))

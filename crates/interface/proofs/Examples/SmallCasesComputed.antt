@@ -7,7 +7,7 @@ use Rattle.words.specs.Sizes.{places}
 use Rattle.reply.specs.declared.Fault.the-variants.{NoFault, AtRecord}
 use Rattle.interface.specs.Basics.{put, listed, lowest}
 use Rattle.interface.specs.Places.{Cap}
-use Rattle.interface.specs.Boot.{informationPage, utcbPage, boot}
+use Rattle.interface.specs.Boot.{boot}
 use Rattle.interface.specs.Damage.{rulesOfDamage, firstFault, soundState}
 use Rattle.interface.specs.Effects.{among}
 use Rattle.interface.specs.History.{latest, standing, held, origins, placeLink, heldCap, heldAmong, cutFilling, note, noteAll, cameFrom, heir}
@@ -16,14 +16,14 @@ use Rattle.interface.specs.SmallCases.{placeChanged, recordsChanged, pla
 use Rattle.interface.proofs.Basics.BoolLaws.{not-both}
 use Rattle.interface.proofs.Basics.PutLaws.{put-other}
 use Rattle.interface.proofs.Sound.Soundness.{damage-rules}
-use Rattle.interface.proofs.History.BootLaws.{boot-tables, boot-sound}
+use Rattle.interface.proofs.History.BootLaws.{utcbPlace, informationPlace, boot-tables, boot-sound}
 use Rattle.interface.proofs.Consequences.DamageReportLaws.{kept-none}
 use Rattle.interface.proofs.Examples.Shared.{_and_, descriptors, steps, items}
 use Rattle.interface.proofs.Examples.FaultLaws.{recordFault, record-fault, placeFault, placeRules, place-fault}
 
 -- the first fault of boot's state with one place changed, with two, and with a line of delegations, is that of the places there
 module _ (first size : ℕ) (cap : Cap) (fit : first + size ≤ places) (is-first : among first size first ≡ true)
-    (parents-apart : (among first size utcbPage || among first size informationPage) ≡ false) where
+    (parents-apart : (among first size utcbPlace || among first size informationPlace) ≡ false) where
   other-place : (changed p : ℕ) → among first size changed ≡ true → among first size p ≡ false → p ≡ changed → ⊥
   other-place changed p t f e = not-both (among first size p) (rw e t) f
 

@@ -35,10 +35,17 @@ inRootMemory p = eqb (domainOf p) root && eqb (spaceOf p) memory
 abbrev lender : ℕ → ℕ
 lender p = placeOf hypervisor memory (selectorOf p)
 
--- whether a place shows what delegation makes of one of the two pages that the root gets
+-- domain 0's places of the two pages that the root gets
+abbrev pub utcbPlace : ℕ
+utcbPlace = placeOf hypervisor memory utcbPage
+
+abbrev pub informationPlace : ℕ
+informationPlace = placeOf hypervisor memory informationPage
+
+-- whether a place shows what delegation makes of one of these
 abbrev lentFrom : ℕ → ℕ → Bool
 lentFrom source p =
-    (eqb source utcbPage || eqb source informationPage) && live (bootCap source) && ltb (bootCap source .depth) greatestDepth &&
+    (eqb source utcbPlace || eqb source informationPlace) && live (bootCap source) && ltb (bootCap source .depth) greatestDepth &&
     sameCap (bootCap p) (handed (bootCap source) source (bootCap p .permissions))
 
 -- what boot fills in the root's memory is lent so, what it fills elsewhere has no parent and depth 0, and the rest is null
@@ -58,7 +65,7 @@ boot-short = refl
 
 -- a place that is lent from another
 record Lent (source p : ℕ) : Type 0 where
-  one-of-two : (source ≡ utcbPage) ⊎ (source ≡ informationPage)
+  one-of-two : (source ≡ utcbPlace) ⊎ (source ≡ informationPlace)
   source-live : live (bootCap source) ≡ true
   source-shallow : bootCap source .depth < greatestDepth
   handed-on : bootCap p ≡ handed (bootCap source) source (bootCap p .permissions)
@@ -74,12 +81,12 @@ module _ (p : ℕ) (l : p < places) where
     boot-lent : inRootMemory p ≡ true → Lent (lender p) p
     boot-lent m =
         let source = lender p in
-        let parts = each-of-four (eqb source utcbPage || eqb source informationPage) (live (bootCap source)) (ltb (bootCap source .depth) greatestDepth)
+        let parts = each-of-four (eqb source utcbPlace || eqb source informationPlace) (live (bootCap source)) (ltb (bootCap source .depth) greatestDepth)
         (sameCap (bootCap p) (handed (bootCap source) source (bootCap p .permissions))) (rw (alive, m) at shape) in
         record {
           one-of-two =
-              ⊎-elim (λ (e : eqb source utcbPage ≡ true). inl (eqb-true source utcbPage e)) (λ (e : eqb source informationPage ≡ true). inr (eqb-true source informationPage e))
-              (either (eqb source utcbPage) (eqb source informationPage) (parts .0));
+              ⊎-elim (λ (e : eqb source utcbPlace ≡ true). inl (eqb-true source utcbPlace e)) (λ (e : eqb source informationPlace ≡ true). inr (eqb-true source informationPlace e))
+              (either (eqb source utcbPlace) (eqb source informationPlace) (parts .0));
           source-live = parts .1;
           source-shallow = ltb-true (bootCap source .depth) greatestDepth (parts .2);
           handed-on = same-cap (bootCap p) (handed (bootCap source) source (bootCap p .permissions)) (parts .3);
@@ -102,7 +109,7 @@ module _ (p : ℕ) (l : p < places) where
         (λ (f : inRootMemory p ≡ false). omega (arith, boot-parentless f .1))
 
     -- a place has no parent, or one of the two pages
-    pub boot-parent : (bootCap p .parent ≡ 0) ⊎ ((bootCap p .parent - 1 ≡ utcbPage) ⊎ (bootCap p .parent - 1 ≡ informationPage))
+    pub boot-parent : (bootCap p .parent ≡ 0) ⊎ ((bootCap p .parent - 1 ≡ utcbPlace) ⊎ (bootCap p .parent - 1 ≡ informationPlace))
     boot-parent =
         cases (inRootMemory p)
         (λ (m : inRootMemory p ≡ true).
@@ -214,7 +221,7 @@ module _ (n : ℕ) (l : n < places) (h : History) (follows : Follows h (bootBelo
   abbrev filling : ℕ → Filling
   filling source = record { place = n; resource = bootCap n .resource; permissions = bootCap n .permissions; source = source }
 
-  -- a history that shows the place's capability besides shows one place more
+  -- a history that shows this place's capability besides those before it shows boot's places one further
   grown : (later : History) → Follows later (record { caps = put (told h .caps) n (bootCap n); objects = h .objects }) → Follows later (bootBelow (suc n))
   grown later one = (
     one .0 ∙
@@ -258,8 +265,8 @@ module _ (n : ℕ) (l : n < places) (h : History) (follows : Follows h (bootBelo
       -- the source was filled before
       source-shows : told h .caps source ≡ bootCap source
       source-shows =
-          let low : source ≤ informationPage =
-          ⊎-elim (λ (e : source ≡ utcbPage). omega arith) (λ (e : source ≡ informationPage). omega arith) (lent .one-of-two)
+          let low : source ≤ informationPlace =
+          ⊎-elim (λ (e : source ≡ utcbPlace). omega arith) (λ (e : source ≡ informationPlace). omega arith) (lent .one-of-two)
           in
           let there : domainOf n ≡ root = eqb-true (domainOf n) root (and-left (eqb (domainOf n) root) (eqb (spaceOf n) memory) in-root) in
           rw (shows source, lt-ltb source n (omega arith))

@@ -1,5 +1,5 @@
 -- A history after a revocation: what it shows is what revocation leaves of what was shown, and it stays valid.
-use Prim.Native.Nat.{ℕ, zero, suc, _≤_, _<_}
+use Prim.Native.Nat.{ℕ, zero, suc, _+_, _≤_, _<_}
 use mathlib.Core.Path.{_≡_, refl, sym, ap, _∙_, fun-ext}
 use mathlib.Core.Bool.{Bool, true, false, _&&_, _||_, and-true}
 use mathlib.Core.Logic.{⊎-elim}
@@ -7,16 +7,16 @@ use mathlib.Core.List.{[], _∷_}
 use native.Mathlib.Numerals.{add-one}
 use native.Mathlib.Omega.{arith}
 use lib.Bits.{and-zero-l}
-use lib.Dec.{eqb, ltb}
+use lib.Dec.{eqb, leb, ltb}
 use lib.ListN.{length}
-use borrow.Author.Tests.{eq-eqb, eqb-true, eqb-false, ltb-true, ltb-false}
+use borrow.Author.Tests.{eq-eqb, eqb-true, eqb-false, lt-ltb, ltb-true, ltb-false, le-leb, leb-true}
 use Rattle.words.specs.Permissions.{within, revoked}
 use Rattle.words.proofs.BitLaws.{within-le, within-across, revoked-within, revoked-respects}
 use Rattle.interface.specs.Basics.{any}
 use Rattle.interface.specs.Places.{Cap, nothing}
 use Rattle.interface.specs.Effects.{cut, chain, ancestors, among, below, stripped, cutCaps}
 use Rattle.interface.specs.History.{Filling, History, latest, standing, held, origins, placeLink, heldCap, told, heldAmong, cutFilling, note}
-use Rattle.interface.proofs.Basics.BoolLaws.{cases, not-both, and-right, or-left, or-right, either}
+use Rattle.interface.proofs.Basics.BoolLaws.{cases, not-both, and-left, and-right, or-left, or-right, either, same-test}
 use Rattle.interface.proofs.Basics.ChainLaws.{chain-none}
 use Rattle.interface.proofs.History.HistoryLaws.{Valid, latest-bound, latest-place, latest-same, standing-live, standing-none, standing-dead, cap-none, held-none, live-held, origins-none, origins-step}
 use Rattle.interface.proofs.History.AddedLaws.{heldCap-same}
@@ -93,6 +93,16 @@ module _ (h : History) (valid : Valid h) where
 pub stripped-nothing : (mask : ℕ) → stripped mask nothing ≡ nothing
 unfolding stripped
 stripped-nothing mask = rw (and-zero-l mask)
+
+-- a place is among one place exactly when it is that one
+pub among-one : (place other : ℕ) → among place 1 other ≡ eqb place other
+among-one place other =
+    same-test (among place 1 other) (eqb place other)
+    (λ t.
+    let low = leb-true place other (and-left (leb place other) (ltb other (place + 1)) t) in
+    let high = ltb-true other (place + 1) (and-right (leb place other) (ltb other (place + 1)) t) in
+    eq-eqb place other (omega arith))
+    (λ t. let e = eqb-true place other t in rw (le-leb place other (omega arith)) (lt-ltb other (place + 1) (omega arith)))
 
 -- what revocation leaves of a capability
 pub stripped-none : (mask : ℕ) (cap : Cap) → eqb (revoked (cap .permissions) mask) 0 ≡ true → stripped mask cap ≡ nothing

@@ -22,7 +22,8 @@ use Rattle.interface.proofs.History.HistoryLaws.{Valid}
 use Rattle.interface.proofs.History.NoteLaws.{Follows}
 use Rattle.interface.proofs.History.Sequences.{run-sound, notes-follow}
 use Rattle.interface.proofs.History.BootLaws.{boot-sound, boot-follows}
-use Rattle.interface.proofs.History.LentOutLaws.{told-ends, tables-shown, lent-out}
+use Rattle.interface.proofs.History.LentOutLaws.{told-ends, lent-out}
+use Rattle.interface.proofs.Tables.ShownLaws.{tables-shown}
 
 -- a call leaves a sound state sound
 pub after-sound : (s : State) (c : Call) → Sound s → Sound (after s c)

@@ -1,46 +1,39 @@
 -- What tables and the history of the same events say of each other: demand 3.
-use Prim.Native.Nat.{ℕ, zero, suc, _+_, _^_, _≤_, _<_}
+use Prim.Native.Nat.{ℕ, zero, suc, _^_, _≤_, _<_}
 use mathlib.Core.Path.{_≡_, refl, sym, ap, _∙_, subst}
-use mathlib.Core.Bool.{true, false, not, _&&_, _||_, and-false, or-false}
+use mathlib.Core.Bool.{Bool, true, false, not, _&&_, _||_, and-false, or-false}
 use mathlib.Core.List.{List, [], _∷_, _++_}
 use native.Mathlib.Omega.{arith}
-use lib.Dec.{eqb, ltb, leb}
+use lib.Dec.{eqb, ltb}
 use lib.ListN.{length, drop}
-use borrow.Author.Tests.{eq-eqb, ne-eqb, eqb-true, lt-ltb, le-ltb, ltb-true, ltb-false, leb-true, le-leb, lt-leb}
-use Rattle.words.specs.Sizes.{spaceOf, places}
+use borrow.Author.Tests.{eq-eqb, ne-eqb, eqb-true, ltb-false}
+use Rattle.words.specs.Sizes.{domainOf, spaceOf, places}
 use Rattle.words.specs.Permissions.{revoked}
 use Rattle.words.proofs.BitLaws.{revoked-ones}
 use Rattle.words.proofs.PlaceLaws.{made-so}
+use Rattle.descriptor.specs.declared.Reading.the-variants.{Good}
 use Rattle.reply.specs.declared.Reply.the-variants.{Success}
 use Rattle.interface.specs.Basics.{if_then_else_, any}
-use Rattle.interface.specs.Places.{State, Tables, live, nothing, capAt, placeTable, objectTable, tablesOf}
-use Rattle.interface.specs.Damage.{soundState}
+use Rattle.interface.specs.Places.{State, Tables, live, nothing, domainWord, capAt, placeTable, objectTable, tablesOf}
+use Rattle.interface.specs.Damage.{isEc, soundState}
+use Rattle.interface.specs.RangeDescriptors.{reading}
 use Rattle.interface.specs.Effects.{cut, chain, ancestors, among, below, stripped, cutCaps, act, run}
-use Rattle.interface.specs.Verdicts.{Call, grant, replyOf, blockOf}
+use Rattle.interface.specs.Verdicts.{Call, REVOKE, grant, replyOf, blockOf}
 use Rattle.interface.specs.Revoke.{revoke}
-use Rattle.interface.specs.Rules.{hypercallBlock, rule, hypercall, called, rules, after, judged, hypercallReply, hypercallTables}
-use Rattle.interface.specs.Census.{descendants, counted, censusOf}
+use Rattle.interface.specs.Rules.{hypercallBlock, hypercall, called, rules, after, hypercallReply, hypercallTables}
+use Rattle.interface.specs.Census.{descendants, counted}
 use Rattle.interface.specs.History.{History, held, origins, told, heldAmong, note, heir, heirs, cameFrom}
-use Rattle.interface.specs.Demand.{wholeMask, RevokesBelow, LentOut}
+use Rattle.interface.specs.Demand.{wholeMask, onePlace, RevokesBelow, LentOut}
 use Rattle.interface.proofs.Basics.BoolLaws.{cases, and-left, and-right, same-test}
 use Rattle.interface.proofs.Basics.GatherLaws.{gather-same, gather-member, gather-rises}
 use Rattle.interface.proofs.Basics.ChainLaws.{chain-any-none, any-same}
 use Rattle.interface.proofs.Sound.Soundness.{Sound, facts-sound}
 use Rattle.interface.proofs.Sound.GreatestLaws.{five-bits, whole-some, permissions-most}
 use Rattle.interface.proofs.History.HistoryLaws.{Valid, latest-none, standing-none, held-none, held-is}
-use Rattle.interface.proofs.History.CutLaws.{below-told, stripped-none}
+use Rattle.interface.proofs.History.CutLaws.{below-told, among-one, stripped-none}
 use Rattle.interface.proofs.History.NoteLaws.{told-live, live-holds, cut-follows}
-use Rattle.interface.proofs.Tables.TableLaws.{Ends, tables-sized, shown-cap, shown-tables, state-sound}
-
--- a single place is among one place exactly when it is that one
-pub among-one : (place other : ℕ) → among place 1 other ≡ eqb place other
-among-one place other =
-    same-test (among place 1 other) (eqb place other)
-    (λ t.
-    let low = leb-true place other (and-left (leb place other) (ltb other (place + 1)) t) in
-    let high = ltb-true other (place + 1) (and-right (leb place other) (ltb other (place + 1)) t) in
-    eq-eqb place other (omega arith))
-    (λ t. let e = eqb-true place other t in rw (le-leb place other (omega arith)) (lt-ltb other (place + 1) (omega arith)))
+use Rattle.interface.proofs.Tables.TableLaws.{Ends, shown-cap, shown-tables}
+use Rattle.interface.proofs.Tables.ShownLaws.{judged-shown, tables-shown, census-shown, counted-found}
 
 module _ (h : History) (valid : Valid h) where
   -- what a history shows ends where the tables do
@@ -121,22 +114,15 @@ permissions-small s p sound l =
     (λ (t : live (s .caps p) ≡ true). omega (arith, permissions-most s p sound l t, five-bits (spaceOf p)))
     (λ (f : live (s .caps p) ≡ false). omega (arith, ltb-false 0 (s .caps p .permissions) f))
 
--- what a call does on the tables of a state is what it does on the state
-module _ (state : State) (ends : Ends state) (c : Call) where
-  pub judged-shown : judged (tablesOf state) c ≡ rules state c
-  unfolding judged
-  judged-shown = rw (tables-sized state) (ap (λ (s : State). rules s c) (shown-tables state ends))
-
-  pub tables-shown : hypercallTables (tablesOf state) c ≡ tablesOf (after state c)
-  unfolding hypercallTables
-  tables-shown = rw (tables-sized state) (ap (λ (s : State). tablesOf (after s c)) (shown-tables state ends))
-
--- and so is the census of the tables of a sound state
-pub census-shown : (state : State) → Ends state → soundState state ≡ true → (place : ℕ) (list : List ℕ) →
-    censusOf (tablesOf state) place list ≡ counted state place list
-unfolding censusOf
-census-shown state ends sound place list =
-    rw (state-sound state ends sound) (ap (λ (s : State). counted s place list) (shown-tables state ends))
+-- a REVOKE of one place with all mask bits, by an EC of its domain: the whole mask has a permission of every space, so on a sound state it is granted, with one step
+pub one-revoked : (s : State) (place : ℕ) (c : Call) (self : Bool) → soundState s ≡ true → c .number ≡ REVOKE → isEc s (c .caller) ≡ true →
+    s .objects (c .caller) domainWord ≡ domainOf place → reading (c .first) ≡ Good (onePlace place) → c .second ≡ (if self then 1 else 0) →
+    rules s c ≡ grant 0 (cut wholeMask place 1 self ∷ [])
+unfolding rules called hypercall revoke
+one-revoked s place c true sound is-revoke by-ec of-domain descriptor is-self =
+    rw (sound, is-revoke, by-ec, is-self, descriptor, whole-some (spaceOf place), of-domain, made-so place)
+one-revoked s place c false sound is-revoke by-ec of-domain descriptor is-self =
+    rw (sound, is-revoke, by-ec, is-self, descriptor, whole-some (spaceOf place), of-domain, made-so place)
 
 module _ (h : History) (valid : Valid h) (sound : Sound (told h)) where
   -- the tables of a history show what it shows
@@ -154,34 +140,12 @@ module _ (h : History) (valid : Valid h) (sound : Sound (told h)) where
 
   census-of : (place : ℕ) → place < places → live (told h .caps place) ≡ true → (list : List ℕ) → length (heirs h place) ≤ length list →
       counted (told h) place list ≡ record { reply = Success (length (heirs h place)); list = heirs h place ++ drop (length (heirs h place)) list }
-  unfolding counted
-  census-of place l t list enough =
-      rw (
-        lt-leb places place l,
-        t,
-        found-heirs place t,
-        le-ltb (length list) (length (heirs h place)) enough,
-      )
+  census-of place l t list enough = counted-found (told h) place (heirs h place) list l t (found-heirs place t) enough
 
   module _ (place : ℕ) (c : Call) (revokes : RevokesBelow (told h) place c) where
-    is-rule : hypercall (c .number) ≡ rule revoke
-    unfolding hypercall
-    is-rule = rw (revokes .is-revoke)
-
-    -- the whole mask has a permission of every space, so the call is granted, with one step
     granted : rules (told h) c ≡ grant 0 (cut wholeMask place 1 false ∷ [])
-    unfolding rules called revoke
     granted =
-        rw (
-          facts-sound (told h) sound,
-          is-rule,
-          revokes .by-ec,
-          revokes .without-self,
-          revokes .descriptor,
-          whole-some (spaceOf place),
-          revokes .of-domain,
-          made-so place,
-        )
+        one-revoked (told h) place c false (facts-sound (told h) sound) (revokes .is-revoke) (revokes .by-ec) (revokes .of-domain) (revokes .descriptor) (revokes .without-self)
 
     abbrev revoked-state : State
     revoked-state = act (cut wholeMask place 1 false) (told h)

@@ -23,8 +23,9 @@ use Rattle.interface.proofs.Sound.Soundness.{Sound, sound-facts, facts-
 use Rattle.interface.proofs.Tables.VerdictLaws.{sound-rules, after-verdict}
 use Rattle.interface.proofs.History.HistoryLaws.{Valid}
 use Rattle.interface.proofs.History.BootLaws.{boot-sound, boot-follows}
-use Rattle.interface.proofs.History.LentOutLaws.{told-ends, judged-shown, tables-shown}
+use Rattle.interface.proofs.History.LentOutLaws.{told-ends}
 use Rattle.interface.proofs.History.DemandLaws.{after-sound, tell-follows}
+use Rattle.interface.proofs.Tables.ShownLaws.{judged-shown, tables-shown}
 
 -- a whole record: its kind is one, and its body has its length
 pub record IsRecord (kind : ℕ) (body : List ℕ) : Type 0 where
