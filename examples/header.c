@@ -133,8 +133,9 @@ static void root_pages(void) {
     HOLDS(root_page(INFORMATION) == RUDOZHEV_NULL && lent_out(INFORMATION, &heir) == 0);
     HOLDS(root_page(UTCB) == 253965 && lent_out(UTCB, &heir) == 1);
     HOLDS(breached(0, RUDOZHEV_NOWHERE, 0, RUDOZHEV_OBJECT_WORDS));
+    const uint32_t lender = rudozhev_place(0, RUDOZHEV_MEMORY, INFORMATION);
     const uint32_t kept[RUDOZHEV_PLACE_WIDTH] = {INFORMATION, 7, 0, 0};
-    HOLDS(memcmp(tables.places + RUDOZHEV_PLACE_WIDTH * rudozhev_place(0, RUDOZHEV_MEMORY, INFORMATION), kept, sizeof kept) == 0);
+    HOLDS(memcmp(tables.places + RUDOZHEV_PLACE_WIDTH * lender, kept, sizeof kept) == 0);
 }
 
 static void hypercalls(void) {

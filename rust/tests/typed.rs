@@ -1,6 +1,6 @@
 //! The typed calls, by the interface manual's examples.
 
-use rudozhev::words::{OBJECT_WORDS, PLACE_WORDS};
+use rudozhev::words::{OBJECT_WORDS, PLACE_WIDTH, PLACE_WORDS};
 use rudozhev::{
     words, Block, Capability, Damage, Descriptor, Domain, EventBase, Hotspot, Hypercall, Item,
     Location, ObjectNumber, Operation, Place, Qpd, Reason, Received, Refusal, Selector, Space,
@@ -103,7 +103,7 @@ fn boot_lends_two_pages_to_the_root() -> Result<(), Refusal> {
         assert!(tables == booted);
         tables.hypercall(ROOT_EC, Hypercall::Revoke { range: there, with_self: true })?;
         let mut places = *booted.place_words();
-        places[4 * own.number() as usize..][..4].fill(0);
+        places[PLACE_WIDTH * own.number() as usize..][..PLACE_WIDTH].fill(0);
         assert!(tables == Tables::from_words(places, *booted.object_words()));
         assert!(tables.is_sound());
         assert_eq!(tables.lookup(ROOT_EC, there)?, None);
