@@ -37,25 +37,59 @@ static void descriptors(void) {
     HOLDS(rudozhev_range(RUDOZHEV_MEMORY, 8, 3, 7) == 33181);
     HOLDS(rudozhev_range(RUDOZHEV_MEMORY, 0, 6, 0) == 769);
     HOLDS(rudozhev_range(RUDOZHEV_IO, 63, 0, 0) == 258050);
+    HOLDS(rudozhev_range(RUDOZHEV_OBJECT, 64, 0, 0) == 262147);
+    HOLDS(rudozhev_range(RUDOZHEV_OBJECT, 0, 7, 0) == 899);
+    HOLDS(rudozhev_range(RUDOZHEV_OBJECT, 0, 8, 0) == 1027);
+    HOLDS(rudozhev_range(RUDOZHEV_OBJECT, 192, 4, 1) == 786951);
+    HOLDS(rudozhev_base(786951) == 192 && rudozhev_order(1027) == 8);
     HOLDS(rudozhev_base(33181) == 8 && rudozhev_order(33181) == 3 && rudozhev_mask(33181) == 7);
 
     HOLDS(rudozhev_range(RUDOZHEV_MEMORY, 4, 3, 0) == RUDOZHEV_MALFORMED);
     HOLDS(rudozhev_range(RUDOZHEV_MEMORY, 0, 7, 0) == RUDOZHEV_MALFORMED);
     HOLDS(rudozhev_range(RUDOZHEV_MEMORY, 0, 32, 0) == RUDOZHEV_MALFORMED);
+    HOLDS(rudozhev_range(RUDOZHEV_IO, 0, 7, 0) == RUDOZHEV_MALFORMED);
+    HOLDS(rudozhev_range(RUDOZHEV_OBJECT, 0, 9, 0) == RUDOZHEV_MALFORMED);
+    HOLDS(rudozhev_range(RUDOZHEV_OBJECT, 64, 8, 0) == RUDOZHEV_MALFORMED);
+    HOLDS(rudozhev_range(RUDOZHEV_OBJECT, 256, 0, 0) == RUDOZHEV_MALFORMED);
     HOLDS(rudozhev_range(RUDOZHEV_OBJECT, 0, UINT32_MAX, 0) == RUDOZHEV_MALFORMED);
+    HOLDS(rudozhev_range(RUDOZHEV_MEMORY, 64, 0, 0) == RUDOZHEV_MALFORMED);
     HOLDS(rudozhev_range(RUDOZHEV_IO, 64, 0, 0) == RUDOZHEV_MALFORMED);
     HOLDS(rudozhev_range(RUDOZHEV_IO, UINT32_MAX, 0, 0) == RUDOZHEV_MALFORMED);
     HOLDS(rudozhev_range(RUDOZHEV_IO, 0, 0, 32) == RUDOZHEV_MALFORMED);
     HOLDS(rudozhev_range((enum rudozhev_space)3, 0, 0, 0) == RUDOZHEV_MALFORMED);
 }
 
-static void other_words(void) {
-    HOLDS(rudozhev_place(1, RUDOZHEV_OBJECT, 32) == 352);
-    HOLDS(rudozhev_place(7, RUDOZHEV_OBJECT, 63) == RUDOZHEV_PLACES - 1);
+static void place_numbers(void) {
+    HOLDS(rudozhev_selectors(RUDOZHEV_MEMORY) == 64 && rudozhev_greatest_order(RUDOZHEV_MEMORY) == 6);
+    HOLDS(rudozhev_selectors(RUDOZHEV_IO) == 64 && rudozhev_greatest_order(RUDOZHEV_IO) == 6);
+    HOLDS(rudozhev_selectors(RUDOZHEV_OBJECT) == 256 && rudozhev_greatest_order(RUDOZHEV_OBJECT) == 8);
+    HOLDS(rudozhev_selectors((enum rudozhev_space)3) == 0);
+
+    HOLDS(rudozhev_place(0, RUDOZHEV_IO, 0) == 64 && rudozhev_place(0, RUDOZHEV_OBJECT, 0) == 128);
+    HOLDS(rudozhev_place(1, RUDOZHEV_OBJECT, 32) == 544);
+    HOLDS(rudozhev_place(7, RUDOZHEV_OBJECT, 255) == 3071 && RUDOZHEV_PLACES == 3072);
     HOLDS(rudozhev_place(8, RUDOZHEV_MEMORY, 0) == RUDOZHEV_PLACES);
     HOLDS(rudozhev_place(0, RUDOZHEV_MEMORY, 64) == RUDOZHEV_PLACES);
+    HOLDS(rudozhev_place(0, RUDOZHEV_IO, 64) == RUDOZHEV_PLACES);
+    HOLDS(rudozhev_place(0, RUDOZHEV_OBJECT, 256) == RUDOZHEV_PLACES);
     HOLDS(rudozhev_place(0, (enum rudozhev_space)3, 0) == RUDOZHEV_PLACES);
 
+    uint32_t number = 0;
+    for (uint32_t domain = 0; domain < RUDOZHEV_DOMAINS; domain++) {
+        for (int space = 0; space < RUDOZHEV_SPACES; space++) {
+            for (uint32_t selector = 0; selector < rudozhev_selectors((enum rudozhev_space)space); selector++) {
+                const struct rudozhev_position read = rudozhev_read_place(number);
+                HOLDS(rudozhev_place(domain, (enum rudozhev_space)space, selector) == number);
+                HOLDS(read.domain == domain && (int)read.space == space && read.selector == selector);
+                number++;
+            }
+        }
+    }
+    HOLDS(number == RUDOZHEV_PLACES && rudozhev_read_place(number).domain == RUDOZHEV_DOMAINS);
+    HOLDS(rudozhev_read_place(UINT32_MAX).domain == RUDOZHEV_DOMAINS);
+}
+
+static void other_words(void) {
     HOLDS(rudozhev_delegation(23, true) == 96257);
     HOLDS(rudozhev_delegation(5, false) == 20481);
     HOLDS(rudozhev_delegation(UINT32_C(5) << 20 | 5, false) == 20481);
@@ -81,7 +115,7 @@ static void depth(void) {
     uint32_t parent = rudozhev_place(0, RUDOZHEV_MEMORY, 0), next = parent;
     for (uint32_t depth = 1; depth <= RUDOZHEV_GREATEST_DEPTH + 1; depth++) {
         HOLDS(breached(0, RUDOZHEV_NOWHERE, 0, RUDOZHEV_OBJECT_WORDS));
-        next = rudozhev_place(1, RUDOZHEV_MEMORY, depth);
+        next = rudozhev_place(1, RUDOZHEV_MEMORY, depth - 1);
         const uint32_t words[RUDOZHEV_PLACE_WIDTH] = {0, 7, parent + 1, depth};
         memcpy(tables.places + RUDOZHEV_PLACE_WIDTH * next, words, sizeof words);
         parent = next;
@@ -92,8 +126,11 @@ static void depth(void) {
 static void damage(void) {
     HOLDS(breached(0, RUDOZHEV_NOWHERE, 0, RUDOZHEV_OBJECT_WORDS));
     HOLDS(breached(1, RUDOZHEV_NOWHERE, 0, RUDOZHEV_OBJECT_WORDS - 1));
-    tables.places[RUDOZHEV_PLACE_WIDTH * 200] = 5;
-    HOLDS(breached(10, RUDOZHEV_AT_PLACE, 200, RUDOZHEV_OBJECT_WORDS));
+    const uint32_t last = RUDOZHEV_PLACES - 1;
+    tables.places[RUDOZHEV_PLACE_WIDTH * last + 3] = 1;
+    HOLDS(breached(10, RUDOZHEV_AT_PLACE, last, RUDOZHEV_OBJECT_WORDS));
+    tables.places[RUDOZHEV_PLACE_WIDTH * 392] = 5;
+    HOLDS(breached(10, RUDOZHEV_AT_PLACE, 392, RUDOZHEV_OBJECT_WORDS));
     tables.places[0] = 1;
     HOLDS(breached(2, RUDOZHEV_AT_PLACE, 0, RUDOZHEV_OBJECT_WORDS));
     tables.objects[0] = 0;
@@ -124,8 +161,8 @@ static void root_pages(void) {
     enum { UTCB = RUDOZHEV_ROOT_UTCB_PAGE, INFORMATION = RUDOZHEV_INFORMATION_PAGE };
     uint32_t heir = 0;
     HOLDS(root_page(UTCB) == 253965 && root_page(INFORMATION) == 258053 && root_page(UTCB - 1) == RUDOZHEV_NULL);
-    HOLDS(lent_out(UTCB, &heir) == 1 && heir == 254);
-    HOLDS(lent_out(INFORMATION, &heir) == 1 && heir == 255);
+    HOLDS(lent_out(UTCB, &heir) == 1 && heir == 446);
+    HOLDS(lent_out(INFORMATION, &heir) == 1 && heir == 447);
     const uint32_t all = rudozhev_range(RUDOZHEV_MEMORY, INFORMATION, 0, RUDOZHEV_FULL_MASK);
     HOLDS(all == 258173 && rudozhev_revoke(&tables, RUDOZHEV_ROOT_EC, all, false) == RUDOZHEV_SUCCESS);
     HOLDS(root_page(INFORMATION) == 258053 && lent_out(INFORMATION, &heir) == 1);
@@ -240,10 +277,24 @@ static void reasons(void) {
     HOLDS(null_for(rudozhev_received(&target, 0), false, RUDOZHEV_REASON_NO_ITEM));
 }
 
+/* Object selectors above 63 are places of their own, and wrap at 256. */
+static void object_selectors(void) {
+    enum { PD = RUDOZHEV_ROOT_PD_SELECTOR, CALLER = RUDOZHEV_ROOT_EC };
+    HOLDS(rudozhev_create_sm(&tables, CALLER, 456, PD, 0) == 0);
+    HOLDS(rudozhev_status(rudozhev_create_sm(&tables, CALLER, 200, PD, 0)) == RUDOZHEV_BAD_CAP);
+    HOLDS(rudozhev_create_sm(&tables, CALLER, 8, PD, 0) == 0);
+    HOLDS(tables.places[RUDOZHEV_PLACE_WIDTH * rudozhev_place(1, RUDOZHEV_OBJECT, 200) + 1] == 3);
+    const uint32_t one = rudozhev_range(RUDOZHEV_OBJECT, 200, 0, 0);
+    HOLDS(rudozhev_lookup(&tables, CALLER, one) == rudozhev_range(RUDOZHEV_OBJECT, 200, 0, 3));
+    const uint32_t all = rudozhev_range(RUDOZHEV_OBJECT, 0, RUDOZHEV_OBJECT_ORDER, RUDOZHEV_FULL_MASK);
+    HOLDS(rudozhev_revoke(&tables, CALLER, all, true) == 0);
+    HOLDS(rudozhev_lookup(&tables, CALLER, one) == RUDOZHEV_NULL);
+}
+
 /* What does not fit is refused. */
 static void refusals(void) {
     enum { PD = RUDOZHEV_ROOT_PD_SELECTOR, EC = RUDOZHEV_ROOT_EC_SELECTOR, CALLER = RUDOZHEV_ROOT_EC };
-    const uint32_t wide = rudozhev_range(RUDOZHEV_OBJECT, 0, 7, RUDOZHEV_FULL_MASK);
+    const uint32_t wide = rudozhev_range(RUDOZHEV_OBJECT, 0, 9, RUDOZHEV_FULL_MASK);
     HOLDS(rudozhev_status(rudozhev_lookup(&tables, CALLER, wide)) == RUDOZHEV_BAD_PAR);
     HOLDS(rudozhev_status(rudozhev_revoke(&tables, CALLER, wide, false)) == RUDOZHEV_BAD_PAR);
     const uint32_t mask_0 = rudozhev_range(RUDOZHEV_OBJECT, EC, 0, 0);
@@ -269,11 +320,14 @@ static void refusals(void) {
 
 int main(void) {
     descriptors();
+    place_numbers();
     other_words();
     HOLDS(boot(&tables) && boot(&general));
     hypercalls();
     reasons();
     refusals();
+    HOLDS(boot(&tables));
+    object_selectors();
     HOLDS(boot(&tables));
     root_pages();
     HOLDS(boot(&tables));

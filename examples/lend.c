@@ -72,13 +72,20 @@ static uint64_t census(uint32_t place, uint32_t *list, size_t list_words) {
                            list_words);
 }
 
+/* The name of a space. */
+static const char *named(enum rudozhev_space space) {
+    return space == RUDOZHEV_MEMORY ? "memory" : space == RUDOZHEV_IO ? "I/O" : "object";
+}
+
 /* Prints the places that descend from a place. */
 static void count(const char *what, uint32_t place) {
     uint32_t list[RUDOZHEV_PLACES];
     uint32_t heirs = done("the census", census(place, list, RUDOZHEV_PLACES));
     printf("census of %s: %" PRIu32 " lent out", what, heirs);
     for (uint32_t heir = 0; heir < heirs; heir++) {
-        printf(", place %" PRIu32 " of domain %" PRIu32, list[heir], list[heir] / RUDOZHEV_DOMAIN_PLACES);
+        const struct rudozhev_position at = rudozhev_read_place(list[heir]);
+        printf(", place %" PRIu32 " (%s selector %" PRIu32 " of domain %" PRIu32 ")", list[heir], named(at.space),
+               at.selector, at.domain);
     }
     printf("\n");
 }
@@ -122,7 +129,7 @@ static void damage(uint32_t place) {
 }
 
 int main(void) {
-    const uint32_t everything = rudozhev_range(RUDOZHEV_IO, 0, 6, RUDOZHEV_FULL_MASK);
+    const uint32_t everything = rudozhev_range(RUDOZHEV_IO, 0, RUDOZHEV_PAGE_ORDER, RUDOZHEV_FULL_MASK);
     const uint32_t eight = rudozhev_range(RUDOZHEV_IO, 32, 3, RUDOZHEV_FULL_MASK);
     const uint32_t four = rudozhev_range(RUDOZHEV_IO, 32, 2, RUDOZHEV_FULL_MASK);
     const uint32_t port_of_hypervisor = rudozhev_place(0, RUDOZHEV_IO, 32);

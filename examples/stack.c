@@ -170,7 +170,7 @@ static void walk_the_longest_way(void) {
     record.source[0] = rudozhev_counts(0, 1);
     record.source[RUDOZHEV_BLOCK_WORDS - 1] = rudozhev_range(RUDOZHEV_MEMORY, RUDOZHEV_GREATEST_DEPTH, 0, RUDOZHEV_FULL_MASK);
     record.source[RUDOZHEV_BLOCK_WORDS - 2] = RUDOZHEV_TRANSLATION;
-    record.target[RUDOZHEV_TRANSLATE_WINDOW] = rudozhev_range(RUDOZHEV_MEMORY, 0, 6, 0);
+    record.target[RUDOZHEV_TRANSLATE_WINDOW] = rudozhev_range(RUDOZHEV_MEMORY, 0, RUDOZHEV_PAGE_ORDER, 0);
     by_root(RUDOZHEV_CALL, TO_CHILD, 0, 0);
     place = parent;
     measure(CENSUS);

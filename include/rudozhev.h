@@ -40,26 +40,28 @@ extern "C" {
 
 /* Sizes. */
 enum {
-    RUDOZHEV_DOMAINS = 8,         /* 0 is the hypervisor, 1 the root */
-    RUDOZHEV_SPACES = 3,          /* of a domain */
-    RUDOZHEV_SELECTORS = 64,      /* of each space of a domain */
-    RUDOZHEV_DOMAIN_PLACES = 192, /* of each domain: the stride from one to the next */
-    RUDOZHEV_PLACES = 1536,       /* domains, spaces and selectors together */
-    RUDOZHEV_PLACE_WIDTH = 4,     /* resource, permissions, parent place plus 1, depth */
-    RUDOZHEV_PLACE_WORDS = 6144,  /* the place table */
-    RUDOZHEV_RECORDS = 64,        /* object records */
-    RUDOZHEV_RECORD_WIDTH = 5,    /* the kind and four more */
-    RUDOZHEV_OBJECT_WORDS = 320,  /* the object table */
-    RUDOZHEV_BLOCK_WORDS = 64,    /* a message block */
-    RUDOZHEV_HEADER_WORDS = 4,    /* of a block, before its data */
-    RUDOZHEV_DATA_WORDS = 60,     /* of a block, for untyped words and typed items */
-    RUDOZHEV_ITEM_WORDS = 2       /* of a typed item: its second word, then its descriptor */
+    RUDOZHEV_DOMAINS = 8,            /* 0 is the hypervisor, 1 the root */
+    RUDOZHEV_SPACES = 3,             /* of a domain */
+    RUDOZHEV_PAGE_SELECTORS = 64,    /* of a memory space, and of an I/O space */
+    RUDOZHEV_OBJECT_SELECTORS = 256, /* of an object space */
+    RUDOZHEV_DOMAIN_PLACES = 384,    /* of each domain: the stride from one to the next */
+    RUDOZHEV_PLACES = 3072,          /* of all domains */
+    RUDOZHEV_PLACE_WIDTH = 4,        /* resource, permissions, parent place plus 1, depth */
+    RUDOZHEV_PLACE_WORDS = 12288,    /* the place table */
+    RUDOZHEV_RECORDS = 64,           /* object records */
+    RUDOZHEV_RECORD_WIDTH = 5,       /* the kind and four more */
+    RUDOZHEV_OBJECT_WORDS = 320,     /* the object table */
+    RUDOZHEV_BLOCK_WORDS = 64,       /* a message block */
+    RUDOZHEV_HEADER_WORDS = 4,       /* of a block, before its data */
+    RUDOZHEV_DATA_WORDS = 60,        /* of a block, for untyped words and typed items */
+    RUDOZHEV_ITEM_WORDS = 2          /* of a typed item: its second word, then its descriptor */
 };
 
 /* Limits. */
 enum {
-    RUDOZHEV_GREATEST_DEPTH = 31,       /* of a place: its ancestors */
-    RUDOZHEV_GREATEST_ORDER = 6,        /* of a range: it has 2^order selectors */
+    RUDOZHEV_GREATEST_DEPTH = 63,       /* of a place: its ancestors */
+    RUDOZHEV_PAGE_ORDER = 6,            /* of a range of pages or ports: it has 2^order selectors */
+    RUDOZHEV_OBJECT_ORDER = 8,          /* of a range of objects */
     RUDOZHEV_GREATEST_PRIORITY = 255,   /* of an SC */
     RUDOZHEV_GREATEST_QUANTUM = 1048575 /* of an SC */
 };
@@ -117,6 +119,18 @@ enum rudozhev_operation { RUDOZHEV_UP = 0, RUDOZHEV_DOWN = 1 };
 /* Spaces of a domain. */
 enum rudozhev_space { RUDOZHEV_MEMORY = 0, RUDOZHEV_IO = 1, RUDOZHEV_OBJECT = 2 };
 
+/* How many selectors a space has, and the order of the range that is the whole space.
+ * There are no selectors where there is no such space. */
+RUDOZHEV_ANSWERS static inline uint32_t rudozhev_selectors(enum rudozhev_space space) {
+    if ((uint32_t)space >= RUDOZHEV_SPACES) {
+        return 0;
+    }
+    return space == RUDOZHEV_OBJECT ? RUDOZHEV_OBJECT_SELECTORS : RUDOZHEV_PAGE_SELECTORS;
+}
+RUDOZHEV_ANSWERS static inline uint32_t rudozhev_greatest_order(enum rudozhev_space space) {
+    return space == RUDOZHEV_OBJECT ? RUDOZHEV_OBJECT_ORDER : RUDOZHEV_PAGE_ORDER;
+}
+
 /* The descriptor of no range, one that every call refuses (of order 31), and the
  * mask of all permissions. */
 #define RUDOZHEV_NULL UINT32_C(0)
@@ -134,12 +148,12 @@ RUDOZHEV_ANSWERS static inline uint32_t rudozhev_answer(uint64_t reply) {
 }
 
 /* The descriptor word of an aligned range of 2^order selectors. RUDOZHEV_MALFORMED
- * where the order is above 6, the base not below 64 or no multiple of 2^order, the
- * mask above 31, or the space none: hypercalls refuse that with BAD_PAR, and as an
- * item or a window it moves nothing. */
+ * where the order is above the greatest of the space, the base no selector of it or no
+ * multiple of 2^order, the mask above 31, or the space none: hypercalls refuse that with
+ * BAD_PAR, and as an item or a window it moves nothing. */
 RUDOZHEV_ANSWERS static inline uint32_t rudozhev_range(enum rudozhev_space space, uint32_t base, uint32_t order,
                                                        uint32_t mask) {
-    if ((uint32_t)space >= RUDOZHEV_SPACES || order > RUDOZHEV_GREATEST_ORDER || base >= RUDOZHEV_SELECTORS ||
+    if (order > rudozhev_greatest_order(space) || base >= rudozhev_selectors(space) ||
         (base & ((UINT32_C(1) << order) - 1)) != 0 || mask > RUDOZHEV_FULL_MASK) {
         return RUDOZHEV_MALFORMED;
     }
@@ -161,14 +175,37 @@ RUDOZHEV_ANSWERS static inline uint32_t rudozhev_mask(uint32_t descriptor) {
 /* The place number of a selector in a space of a domain. RUDOZHEV_PLACES, which no
  * place has and a census refuses with BAD_PAR, where one of the three does not exist. */
 RUDOZHEV_ANSWERS static inline uint32_t rudozhev_place(uint32_t domain, enum rudozhev_space space, uint32_t selector) {
-    if (domain >= RUDOZHEV_DOMAINS || (uint32_t)space >= RUDOZHEV_SPACES || selector >= RUDOZHEV_SELECTORS) {
+    if (domain >= RUDOZHEV_DOMAINS || selector >= rudozhev_selectors(space)) {
         return RUDOZHEV_PLACES;
     }
-    return domain * RUDOZHEV_DOMAIN_PLACES + (uint32_t)space * RUDOZHEV_SELECTORS + selector;
+    /* Memory and I/O, which come before the object space, are of one size. */
+    return domain * RUDOZHEV_DOMAIN_PLACES + (uint32_t)space * RUDOZHEV_PAGE_SELECTORS + selector;
+}
+
+/* What a place number stands for: one that a census lists, a damage report names or a
+ * parent word has, less 1. */
+struct rudozhev_position {
+    uint32_t domain; /* RUDOZHEV_DOMAINS, which there is not, for a number that no place has */
+    enum rudozhev_space space;
+    uint32_t selector;
+};
+
+/* Takes a place number apart. */
+RUDOZHEV_ANSWERS static inline struct rudozhev_position rudozhev_read_place(uint32_t place) {
+    struct rudozhev_position position = {RUDOZHEV_DOMAINS, RUDOZHEV_MEMORY, 0};
+    if (place < RUDOZHEV_PLACES) {
+        const uint32_t at = place % RUDOZHEV_DOMAIN_PLACES;
+        position.domain = place / RUDOZHEV_DOMAIN_PLACES;
+        position.space = at < RUDOZHEV_PAGE_SELECTORS       ? RUDOZHEV_MEMORY
+                         : at < 2 * RUDOZHEV_PAGE_SELECTORS ? RUDOZHEV_IO
+                                                            : RUDOZHEV_OBJECT;
+        position.selector = at - (uint32_t)position.space * RUDOZHEV_PAGE_SELECTORS;
+    }
+    return position;
 }
 
 /* The second word, as sent, of a typed item that translates, and of one that delegates: from
- * domain 0 where the root says so. A hotspot is read modulo the size of a range, 64 at
+ * domain 0 where the root says so. A hotspot is read modulo the size of a range, 256 at
  * most, so the bits above its low 20, which find no room in the word, have no meaning. */
 #define RUDOZHEV_TRANSLATION UINT32_C(0)
 RUDOZHEV_ANSWERS static inline uint32_t rudozhev_delegation(uint32_t hotspot, bool from_hypervisor) {

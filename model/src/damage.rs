@@ -300,7 +300,9 @@ fn places_are_sound(places: &PlaceTable, facts: &ObjectFacts) -> bool {
         for space in Space::ALL {
             let start = (domain * DOMAIN_PLACES + SPACE_START[space as usize]) as usize;
             let rows = &places[start..start + space.selectors() as usize];
-            for group in rows.chunks(GROUP) {
+            let (groups, rest) = rows.as_chunks::<GROUP>();
+            debug_assert!(rest.is_empty(), "every space has whole groups");
+            for group in groups {
                 let bits = group
                     .as_flattened()
                     .iter()

@@ -87,6 +87,7 @@ pub fn journal(kind: Kind, seed: u64, records: usize) -> Vec<u8> {
         Kind::Deep => {
             let children = 1 + generator.random.below(3);
             generator.settle(children, 0);
+            generator.begin_lines(children);
         }
         Kind::Full => generator.settle(DOMAINS - 2, 10),
         Kind::Junk => {}
@@ -116,10 +117,10 @@ const ROOT: Context = Context {
 };
 
 /// Root selectors that the first calls of a journal fill: PDs, then their ECs,
-/// then the portals to those ECs and to two ECs of the root.
+/// and further up the portals to those ECs and to two ECs of the root.
 const PD_SELECTOR: u32 = 35;
 const EC_SELECTOR: u32 = 42;
-const PT_SELECTOR: u32 = 48;
+const PT_SELECTOR: u32 = 200;
 const PT_ORDER: u32 = 3;
 const ROOT_SECOND_EC: u32 = 41;
 
@@ -136,6 +137,9 @@ const OBJECT_KINDS: [ObjectKind; 5] = [
 const DELEGATE: u32 = 1;
 const HYPERVISOR: u32 = 1 << 11;
 const HOTSPOT_SHIFT: u32 = 12;
+
+/// Bits of a descriptor's base, and of a hotspot.
+const FIELD_BITS: u32 = 20;
 
 struct Generator {
     random: Random,
@@ -266,7 +270,8 @@ impl Generator {
 
     /// A word at some edge, or any word.
     fn odd_word(&mut self) -> u32 {
-        let edges = [0, 1, 2, 31, 32, 63, 64, 65, 1 << 31, u32::MAX - 1, u32::MAX];
+        let small = [0, 1, 2, 31, 32, 63, 64, 65, 127, 128, 255, 256, 257];
+        let edges = [&small[..], &[1 << 31, u32::MAX - 1, u32::MAX]].concat();
         if self.random.percent(60) {
             self.random.pick(&edges).unwrap_or(0)
         } else {
@@ -290,16 +295,19 @@ impl Generator {
         }
     }
 
-    /// A small order, rarely one that is out of bounds.
-    fn order(&mut self) -> u32 {
+    /// A small order, at times any of a space, rarely one that is out of its bounds.
+    fn order(&mut self, space: Space) -> u32 {
+        let limit = space.order_limit();
         match self.random.below(20) {
             0..=7 => 0,
             8..=12 => 1,
-            13..=15 => 2,
-            16 => 3,
-            17 => 4,
-            18 => self.random.below(7),
-            _ => self.random.below(9),
+            13..=14 => 2,
+            15 => 3,
+            16 => 4,
+            // The whole space or half of it.
+            17 => limit - self.random.below(2),
+            18 => self.random.below(limit + 1),
+            _ => self.random.below(limit + 3),
         }
     }
 
@@ -308,30 +316,44 @@ impl Generator {
         if self.random.percent(chance) {
             space.order_limit()
         } else {
-            self.order()
+            self.order(space)
         }
+    }
+
+    /// A number of so many bits that names a selector where selectors wrap.
+    fn turned(&mut self, selector: u32, space: Space, bits: u32) -> u32 {
+        let turns = (u32::MAX >> (u32::BITS - bits)) / space.selectors();
+        selector + self.random.below(turns) * space.selectors()
     }
 
     /// A descriptor of the aligned range around a selector.
     fn around(&mut self, space: Space, selector: u32, order: u32, mask: u32) -> u32 {
         let base = selector >> order << order;
-        // Object bases wrap, so any multiple of the space's size may be added.
-        let turns = match space {
-            Space::Object if self.random.percent(10) => self.random.below(1 << 14),
-            _ => 0,
+        let base = match space {
+            Space::Object if self.random.percent(10) => self.turned(base, space, FIELD_BITS),
+            _ => base,
         };
-        Descriptor::new(space, base + turns * space.selectors(), order, mask).word()
+        Descriptor::new(space, base, order, mask).word()
     }
 
     /// A descriptor of some range, mostly well-formed.
     fn some_descriptor(&mut self, domain: u32) -> u32 {
         let space = self.space();
-        let order = self.order();
+        self.descriptor_in(domain, space)
+    }
+
+    /// A descriptor of some range of a space, mostly well-formed.
+    fn descriptor_in(&mut self, domain: u32, space: Space) -> u32 {
+        let order = self.order(space);
         let mask = self.mask();
         match self.random.below(20) {
             0 => self.random.word(),
             1 => self.random.word() & !3,
-            2 => Descriptor::new(space, self.random.below(80), order, mask).word(),
+            2 => {
+                // The base is not aligned, or lies past the space.
+                let base = self.random.below(space.selectors() * 5 / 4);
+                Descriptor::new(space, base, order, mask).word()
+            }
             _ => {
                 let live = self.selectors(domain, space, true);
                 let anywhere = self.random.below(space.selectors());
@@ -363,8 +385,7 @@ impl Generator {
     /// An object selector word, at times past the end of the space.
     fn selector_word(&mut self, selector: u32) -> u32 {
         if self.random.percent(5) {
-            let turns = self.random.below(1 << 26);
-            selector + turns * Space::Object.selectors()
+            self.turned(selector, Space::Object, u32::BITS)
         } else {
             selector
         }
@@ -425,17 +446,34 @@ impl Generator {
         self.random.pick(&best).unwrap_or(ROOT)
     }
 
+    /// The deepest live place of a domain's space, mostly of those that can still be handed on.
+    fn deepest(&mut self, domain: u32, space: Space) -> Option<u32> {
+        let below_limit = self.random.percent(80);
+        let depth = |&selector: &u32| self.row(domain, space, selector)[3];
+        let usable = |selector: &u32| !below_limit || depth(selector) < DEPTH_LIMIT;
+        let live = self.selectors(domain, space, true).into_iter();
+        live.filter(usable).max_by_key(depth)
+    }
+
+    /// A portal of the root to another of its execution contexts.
+    fn portal_within(&mut self) -> Option<u32> {
+        let portals = self.portals(ROOT).into_iter();
+        let own: Vec<(u32, Context)> = portals.filter(|(_, callee)| callee.domain == 1).collect();
+        self.random.pick(&own).map(|(portal, _)| portal)
+    }
+
     // Calls.
 
     /// Creates domains below the root, an execution context in each, and
     /// portals to all of them in every domain.
     fn settle(&mut self, children: u32, other_cpu: u32) {
         for child in 0..children {
-            let order = self.random.below(3);
+            let limit = Space::Object.order_limit();
+            let order = self.window_order(Space::Object, 10).min(limit);
             let mask = self.mask();
             let initial = match self.random.below(4) {
                 0 => Descriptor::NULL.word(),
-                _ => Descriptor::new(Space::Object, ROOT_SELECTOR, order, mask).word(),
+                _ => self.around(Space::Object, ROOT_SELECTOR, order, mask),
             };
             let record = self.make(
                 Hypercall::CreatePd,
@@ -477,6 +515,34 @@ impl Generator {
                 &[(portals, DELEGATE)],
             );
             self.run(record);
+        }
+    }
+
+    /// Gives the first child a place of domain 0 in each space, which it hands on to the root:
+    /// from there on a line has an ancestor in another domain than the root.
+    fn begin_lines(&mut self, children: u32) {
+        let mut contexts = self.contexts().into_iter();
+        let Some(child) = contexts.find(|context| context.domain == 2) else {
+            return;
+        };
+        let to_root = PT_SELECTOR + children;
+        for space in Space::ALL {
+            let window = self.around(space, 0, space.order_limit(), FULL_MASK);
+            let mut source = self.selectors(0, space, true);
+            let hops = [
+                (ROOT, PT_SELECTOR, child.domain, HYPERVISOR | DELEGATE),
+                (child, to_root, ROOT.domain, DELEGATE),
+            ];
+            for (caller, portal, receiver, second) in hops {
+                let from = self.random.pick(&source).unwrap_or(0);
+                let descriptor = self.around(space, from, 0, FULL_MASK);
+                let null = self.selectors(receiver, space, false);
+                let to = self.random.pick(&null).unwrap_or(from);
+                let item = (descriptor, to << HOTSPOT_SHIFT | second);
+                let record = self.message(caller, portal, 0, window, &[item]);
+                self.run(record);
+                source = vec![to];
+            }
         }
     }
 
@@ -527,13 +593,10 @@ impl Generator {
         let hypervisor = sender == 1
             && (self.random.percent(chance) || self.selectors(1, space, true).is_empty());
         let from = if hypervisor { 0 } else { sender };
-        let live = self.selectors(from, space, true);
         let source = if deepest {
-            let below_limit = self.random.percent(80);
-            let depth = |&selector: &u32| self.row(from, space, selector)[3];
-            let usable = |selector: &u32| !below_limit || depth(selector) < DEPTH_LIMIT;
-            live.iter().copied().filter(usable).max_by_key(depth)
+            self.deepest(from, space)
         } else {
+            let live = self.selectors(from, space, true);
             self.random.pick(&live)
         };
         let anywhere = self.random.below(space.selectors());
@@ -552,12 +615,12 @@ impl Generator {
         } else {
             0
         };
-        let turns = if self.random.percent(20) {
-            self.random.below(1 << 14)
+        let hotspot = if self.random.percent(20) {
+            self.turned(hotspot, space, FIELD_BITS)
         } else {
-            0
+            hotspot
         };
-        let hotspot = (hotspot + turns * space.selectors()) << HOTSPOT_SHIFT;
+        let hotspot = hotspot << HOTSPOT_SHIFT;
         (descriptor, hotspot | flags | self.ignored_bits() | DELEGATE)
     }
 
@@ -572,7 +635,13 @@ impl Generator {
     }
 
     /// A translate item: mostly of a place that came from the receiver's domain.
-    fn translate_item(&mut self, sender: u32, receiver: u32, space: Space) -> (Item, u32) {
+    fn translate_item(
+        &mut self,
+        sender: u32,
+        receiver: u32,
+        space: Space,
+        deepest: bool,
+    ) -> (Item, u32) {
         let live = self.selectors(sender, space, true);
         let came = |&selector: &u32| self.ancestor(sender, space, selector, receiver).is_some();
         let inherited: Vec<u32> = live.iter().copied().filter(came).collect();
@@ -582,11 +651,16 @@ impl Generator {
             &live
         };
         let anywhere = self.random.below(space.selectors());
-        let selector = self.random.pick(choice).unwrap_or(anywhere);
+        let (selector, order) = if deepest && self.random.percent(50) {
+            let depth = |&selector: &u32| self.row(sender, space, selector)[3];
+            (choice.iter().copied().max_by_key(depth), 0)
+        } else {
+            (self.random.pick(choice), self.order(space))
+        };
+        let selector = selector.unwrap_or(anywhere);
         let origin = self
             .ancestor(sender, space, selector, receiver)
             .unwrap_or(anywhere);
-        let order = self.order();
         let mask = self.mask();
         let descriptor = self.around(space, selector, order, mask);
         let window_order = self.window_order(space, 60);
@@ -625,7 +699,8 @@ impl Generator {
         let window_mask = self.mask();
         let mut delegate_window = self.around(space, target, window_order, window_mask);
         let translate_space = self.space();
-        let (first, mut translate_window) = self.translate_item(sender, receiver, translate_space);
+        let (first, mut translate_window) =
+            self.translate_item(sender, receiver, translate_space, deep);
         let count = match self.random.below(20) {
             0 => 0,
             1 => 30,
@@ -640,7 +715,10 @@ impl Generator {
                 6..=8 if sender == receiver && !items.is_empty() => {
                     self.chained_item(receiver, space, items[items.len() - 1])
                 }
-                4..=5 => self.translate_item(sender, receiver, translate_space).0,
+                4..=5 => {
+                    let (item, _) = self.translate_item(sender, receiver, translate_space, deep);
+                    item
+                }
                 _ => {
                     let space = if self.random.percent(6) {
                         self.space()
@@ -650,7 +728,7 @@ impl Generator {
                     let order = if deep && self.random.percent(70) {
                         0
                     } else {
-                        self.order()
+                        self.order(space)
                     };
                     self.delegate_item(sender, receiver, space, order, deep)
                 }
@@ -677,6 +755,29 @@ impl Generator {
         record
     }
 
+    /// A CALL from the root to itself whose items go on from its deepest place, each from the
+    /// place that the item before fills.
+    fn call_along_a_line(&mut self) -> Record {
+        let Some(portal) = self.portal_within() else {
+            return self.portal_to_be();
+        };
+        let space = self.space();
+        let mut source = self.deepest(1, space).unwrap_or(0);
+        let mut null = self.selectors(1, space, false);
+        let mut items: Vec<Item> = Vec::new();
+        for _ in 0..1 + self.random.below(30) {
+            let Some(destination) = self.random.pick(&null) else {
+                break;
+            };
+            null.retain(|&selector| selector != destination);
+            let descriptor = self.around(space, source, 0, FULL_MASK);
+            items.push((descriptor, destination << HOTSPOT_SHIFT | DELEGATE));
+            source = destination;
+        }
+        let window = self.around(space, 0, space.order_limit(), FULL_MASK);
+        self.message(ROOT, portal, 0, window, &items)
+    }
+
     /// A creation by which the root may come to hold a portal.
     fn portal_to_be(&mut self) -> Record {
         let new = self.null_selector(1);
@@ -697,7 +798,11 @@ impl Generator {
         let pd = self.named_selector(domain, ObjectKind::Pd, kind.create_permission());
         match kind {
             ObjectKind::Pd => {
-                let initial = self.some_descriptor(domain);
+                let initial = if self.random.percent(75) {
+                    self.descriptor_in(domain, Space::Object)
+                } else {
+                    self.some_descriptor(domain)
+                };
                 self.make(Hypercall::CreatePd, number, &[new, pd, initial])
             }
             ObjectKind::Ec => {
@@ -769,9 +874,7 @@ impl Generator {
     /// A CALL from the root to itself whose items overlap the window: the
     /// hotspot picks the window's own selectors or others beside them.
     fn call_within(&mut self) -> Record {
-        let own = self.portals(ROOT).into_iter();
-        let own: Vec<(u32, Context)> = own.filter(|(_, callee)| callee.domain == 1).collect();
-        let Some((portal, _)) = self.random.pick(&own) else {
+        let Some(portal) = self.portal_within() else {
             return self.portal_to_be();
         };
         let space = self.space();
@@ -849,7 +952,7 @@ impl Generator {
         let Some((portal, _)) = self.random.pick(&to_root) else {
             return self.call(false);
         };
-        let (item, window) = self.translate_item(caller.domain, 1, Space::Memory);
+        let (item, window) = self.translate_item(caller.domain, 1, Space::Memory, false);
         self.message(caller, portal, window, 0, &[item])
     }
 
@@ -896,7 +999,7 @@ impl Generator {
         let live = self.selectors(domain, space, true);
         let anywhere = self.random.below(space.selectors());
         let selector = self.random.pick(&live).unwrap_or(anywhere);
-        let order = if deep { 0 } else { self.order() };
+        let order = if deep { 0 } else { self.order(space) };
         let mask = match self.random.below(10) {
             0..=2 if !deep => FULL_MASK,
             0 => FULL_MASK,
@@ -959,7 +1062,7 @@ impl Generator {
                 0 => self.odd_word(),
                 1 => self.some_descriptor(1),
                 2 => ROOT_SELECTOR + self.random.below(4),
-                _ => self.random.below(64),
+                _ => self.random.below(Space::Object.selectors()),
             };
         }
         record.source.fill_with(|| self.random.word());
@@ -991,7 +1094,8 @@ impl Generator {
                 _ => self.junk(),
             },
             Kind::Deep => match draw {
-                0..=79 => self.call(true),
+                0..=19 => self.call_along_a_line(),
+                20..=79 => self.call(true),
                 80..=82 => self.create(&OBJECT_KINDS),
                 83..=89 => self.revoke(true),
                 90..=97 => self.lookup(),

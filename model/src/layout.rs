@@ -8,7 +8,7 @@ pub const SPACES: usize = 3;
 
 /// Selectors of each space, a power of two. Object selectors and event bases
 /// wrap at the object space's size; memory and I/O ranges must stay below theirs.
-pub const SELECTORS: [u32; SPACES] = [64, 64, 64];
+pub const SELECTORS: [u32; SPACES] = [64, 64, 256];
 
 /// Where each space starts among its domain's places.
 pub const SPACE_START: [u32; SPACES] = [0, SELECTORS[0], SELECTORS[0] + SELECTORS[1]];
@@ -38,7 +38,7 @@ pub const OBJECT_WORDS: usize = OBJECTS * OBJECT_WIDTH;
 pub const FRAMES: u32 = 64;
 
 /// Deepest descent of a capability from one without a parent.
-pub const DEPTH_LIMIT: u32 = 31;
+pub const DEPTH_LIMIT: u32 = 63;
 
 /// CPUs, each with an idle scheduling context at boot.
 pub const CPUS: u32 = 4;

@@ -124,7 +124,7 @@ pub const STORED: &[(&str, Source)] = &[
     ),
     (
         "all-domains-1.journal",
-        Source::Generated(Kind::Full, 6, 250),
+        Source::Generated(Kind::Full, 1, 250),
     ),
     (
         "all-domains-2.journal",
@@ -156,7 +156,7 @@ pub const STORED: &[(&str, Source)] = &[
     ),
     (
         "overlap-in-one-domain-1.journal",
-        Source::Generated(Kind::Within, 22, 200),
+        Source::Generated(Kind::Within, 34, 200),
     ),
     (
         "overlap-in-one-domain-2.journal",
@@ -176,11 +176,11 @@ pub const STORED: &[(&str, Source)] = &[
     ),
     (
         "root-pages-1.journal",
-        Source::Generated(Kind::Pages, 168, 250),
+        Source::Generated(Kind::Pages, 529, 250),
     ),
     (
         "root-pages-2.journal",
-        Source::Generated(Kind::Pages, 504, 250),
+        Source::Generated(Kind::Pages, 20, 250),
     ),
     (
         "unrelated-words-1.journal",

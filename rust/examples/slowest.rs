@@ -10,10 +10,10 @@ use rudozhev::words::{
     self, BLOCK_WORDS, OBJECT_WORDS, PLACES, PLACE_WIDTH, PLACE_WORDS, RECORD_WIDTH,
 };
 use rudozhev::{
-    Descriptor, Domain, EventBase, Hypercall, ObjectNumber, Place, Refusal, Selector, Space, Tables,
+    Descriptor, Domain, EventBase, Hypercall, ObjectNumber, ObjectSelector, Place, Refusal,
+    Selector, Space, Tables,
 };
 
-const ROOT: u32 = 29;
 const RUNS: usize = 3_000;
 
 /// The objects that `furnished` makes: the EC of a domain from 2 to 7.
@@ -42,12 +42,13 @@ struct Case<'a> {
     answer: u32,
 }
 
-fn selector(number: u32) -> Selector {
-    Selector::new(number).expect("a selector")
+fn selector(number: u32) -> ObjectSelector {
+    ObjectSelector::new(number).expect("an object selector")
 }
 
 fn place(domain: u32, space: Space, number: u32) -> u32 {
-    Place::new(Domain::new(domain).expect("a domain"), space, selector(number)).number()
+    let selector = Selector::new(space, number).expect("a selector");
+    Place::new(Domain::new(domain).expect("a domain"), selector).number()
 }
 
 fn word(space: Space, base: u32, order: u32) -> u32 {
@@ -62,7 +63,7 @@ fn furnished() -> Result<Lent, Refusal> {
     let pages = word(Space::Memory, Selector::ROOT_UTCB_PAGE.number(), 1);
     let range = Descriptor::from_word(pages);
     tables.hypercall(root, Hypercall::Revoke { range, with_self: true })?;
-    let event_base = EventBase::at(Selector::FIRST);
+    let event_base = EventBase::at(ObjectSelector::FIRST);
     for domain in 2..8 {
         let [new_pd, new_ec] = [2 * domain + 32, 2 * domain + 33].map(selector);
         let initial = Descriptor::NULL;
@@ -97,51 +98,71 @@ fn lend(lent: &mut Lent, parent: u32, child: u32) {
     }
 }
 
-/// As many places as can be are as deep as can be: in each space a line of 30
+/// As many places as can be are as deep as can be: in each space a line of 62
 /// from a place of domain 0 through domain 7, and from its end every other place
 /// outside domain 0 that is null.
 fn deepest() -> Result<Lent, Refusal> {
     let mut lent = furnished()?;
     for space in [Space::Memory, Space::Io, Space::Object] {
         let mut parent = place(0, space, 4);
-        for depth in 0..30 {
+        for depth in 0..62 {
             let next = place(7, space, depth);
             lend(&mut lent, parent, next);
             parent = next;
         }
         for domain in 1..8 {
-            (0..64).for_each(|number| lend(&mut lent, parent, place(domain, space, number)));
+            (0..space.selectors())
+                .for_each(|number| lend(&mut lent, parent, place(domain, space, number)));
         }
     }
     Ok(lent)
 }
 
-/// Every page and port goes from domain 0 through the domains 2 to 7 to the root,
-/// and the message translates all pages 30 times.
-fn translated() -> Result<Lent, Refusal> {
+/// The domain that sends the messages of the tables below, and has the portal to
+/// domain 2 at every object selector.
+const SENDER: u32 = 3;
+
+/// Every page and port goes from domain 0 to domain 2, and the root's portal to its object
+/// selectors; each of these goes on through the domains 4 to 7 to the sender.
+fn lines() -> Result<Lent, Refusal> {
     let mut lent = furnished()?;
-    for space in [Space::Memory, Space::Io] {
-        for number in 0..64 {
-            let line = [0, 2, 3, 4, 5, 6, 7, 1].map(|domain| place(domain, space, number));
+    for space in [Space::Memory, Space::Io, Space::Object] {
+        for number in 0..space.selectors() {
+            let first = match space {
+                Space::Object => place(1, space, PORTAL),
+                Space::Memory | Space::Io => place(0, space, number),
+            };
+            let line = [2, 4, 5, 6, 7, SENDER].map(|domain| place(domain, space, number));
+            lend(&mut lent, first, line[0]);
             line.windows(2).for_each(|pair| lend(&mut lent, pair[0], pair[1]));
         }
     }
-    lent.source[0] = 30 << 16;
-    for item in lent.source[4..].chunks_mut(2) {
-        item[1] = word(Space::Memory, 0, 6);
-    }
-    lent.target[1] = word(Space::Memory, 0, 6);
     Ok(lent)
 }
 
-/// The message delegates all pages of domain 0 to domain 2, 30 times.
-fn delegated() -> Result<Lent, Refusal> {
-    let mut lent = furnished()?;
+/// The same, and a message that translates all object selectors 30 times.
+fn translated() -> Result<Lent, Refusal> {
+    let mut lent = lines()?;
     lent.source[0] = 30 << 16;
     for item in lent.source[4..].chunks_mut(2) {
-        item.copy_from_slice(&[1 << 11 | 1, word(Space::Memory, 0, 6)]);
+        item[1] = word(Space::Object, 0, 8);
     }
-    lent.target[2] = word(Space::Memory, 0, 6);
+    lent.target[1] = word(Space::Object, 0, 8);
+    Ok(lent)
+}
+
+/// The sender alone has the portal at every object selector, and the message delegates them all to
+/// domain 2, 30 times.
+fn delegated() -> Result<Lent, Refusal> {
+    let mut lent = furnished()?;
+    let portal = place(1, Space::Object, PORTAL);
+    (0..Space::Object.selectors())
+        .for_each(|number| lend(&mut lent, portal, place(SENDER, Space::Object, number)));
+    lent.source[0] = 30 << 16;
+    for item in lent.source[4..].chunks_mut(2) {
+        item.copy_from_slice(&[1, word(Space::Object, 0, 8)]);
+    }
+    lent.target[2] = word(Space::Object, 0, 8);
     Ok(lent)
 }
 
@@ -152,7 +173,7 @@ fn hypercall(lent: &mut Lent, number: u32, caller: u32, a: u32, b: u32) -> Resul
 }
 
 fn message(lent: &mut Lent) -> Result<u32, Refusal> {
-    hypercall(lent, words::CALL, ROOT, PORTAL, 0)
+    hypercall(lent, words::CALL, ec_of(SENDER), 0, 0)
 }
 
 /// Drops what a call may read from the caches.
@@ -183,10 +204,10 @@ fn least(case: &Case, flushed: bool) -> Duration {
     (0..RUNS).map(run).min().expect("some runs")
 }
 
-/// Whether the callee is shown all pages 30 times.
+/// Whether the callee is shown all object selectors 30 times.
 fn shows_all(mut lent: Lent) -> bool {
-    let pages = Descriptor::new(Space::Memory, 0, 6, 7).map(Descriptor::word);
-    message(&mut lent) == Ok(0) && lent.target[4..].chunks(2).all(|item| Some(item[1]) == pages)
+    let all = Descriptor::new(Space::Object, 0, 8, 3).map(Descriptor::word);
+    message(&mut lent) == Ok(0) && lent.target[4..].chunks(2).all(|item| Some(item[1]) == all)
 }
 
 fn main() -> Result<(), Refusal> {
@@ -197,36 +218,38 @@ fn main() -> Result<(), Refusal> {
     assert!(shows_all(translated.clone()));
     let cases = [
         Case {
-            name: "census of a page with 448 heirs",
+            name: "census of an object selector with 1,776 heirs",
             lent: &deepest,
             call: |lent| {
                 let Lent { places, objects, list, .. } = lent;
-                words::census(place(0, Space::Memory, 4), places, objects, list)
+                words::census(place(0, Space::Object, 4), places, objects, list)
             },
-            answer: 448,
+            answer: 1_776,
         },
         Case {
-            name: "CALL that translates 30 times 64 pages",
+            name: "CALL that translates 30 times 256 selectors",
             lent: &translated,
             call: message,
             answer: 0,
         },
         Case {
-            name: "REVOKE of a page with 447 heirs",
+            name: "REVOKE of an object selector with 1,775 heirs",
             lent: &deepest,
-            call: |lent| hypercall(lent, words::REVOKE, ec_of(7), word(Space::Memory, 0, 0), 0),
+            call: |lent| hypercall(lent, words::REVOKE, ec_of(7), word(Space::Object, 0, 0), 0),
             answer: 0,
         },
         Case {
-            name: "CALL that delegates 30 times 64 pages",
+            name: "CALL that delegates 30 times 256 selectors",
             lent: &delegated,
             call: message,
-            answer: 64,
+            answer: 256,
         },
         Case {
             name: "LOOKUP of a range of 64 pages",
             lent: &translated,
-            call: |lent| hypercall(lent, words::LOOKUP, ROOT, word(Space::Memory, 0, 0), 0),
+            call: |lent| {
+                hypercall(lent, words::LOOKUP, ec_of(SENDER), word(Space::Memory, 0, 0), 0)
+            },
             answer: 7 << 2 | 6 << 7 | 1,
         },
         Case {
@@ -250,10 +273,10 @@ fn main() -> Result<(), Refusal> {
             answer: 0,
         },
     ];
-    println!("{:40} {:>12} {:>12}", "", "cached, ns", "flushed, ns");
+    println!("{:45} {:>12} {:>12}", "", "cached, ns", "flushed, ns");
     for case in &cases {
         let [cached, flushed] = [false, true].map(|flushed| least(case, flushed).as_nanos());
-        println!("{:40} {cached:12} {flushed:12}", case.name);
+        println!("{:45} {cached:12} {flushed:12}", case.name);
     }
     Ok(())
 }

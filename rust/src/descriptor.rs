@@ -1,14 +1,11 @@
 //! Range descriptors.
 
-use crate::numbers::{Space, SELECTORS};
+use crate::numbers::{Selector, Space};
 
 const TYPE_BITS: u32 = 3;
 const MASK_SHIFT: u32 = 2;
 const ORDER_SHIFT: u32 = 7;
 const BASE_SHIFT: u32 = 12;
-
-/// The largest order of a range.
-const ORDER_LIMIT: u32 = SELECTORS.trailing_zeros();
 
 /// A descriptor word: an aligned run of selectors in one space, with a mask of
 /// permissions.
@@ -22,15 +19,21 @@ impl Descriptor {
     /// The mask with all five bits.
     pub const FULL_MASK: u32 = 31;
 
-    /// A range of 2^order selectors from a base on: the base is below 64 and a
-    /// multiple of 2^order, the order at most 6 and the mask at most 31.
+    /// A range of 2^order selectors of a space from a base on: the base is a selector
+    /// there and a multiple of 2^order, the order at most the space's greatest and the
+    /// mask at most 31.
     pub const fn new(space: Space, base: u32, order: u32, mask: u32) -> Option<Descriptor> {
-        let fits = order <= ORDER_LIMIT && base < SELECTORS && mask <= Descriptor::FULL_MASK;
-        if !fits || !base.is_multiple_of(1 << order) {
+        let is_inside = order <= space.greatest_order() && base < space.selectors();
+        if !is_inside || !base.is_multiple_of(1 << order) || mask > Descriptor::FULL_MASK {
             return None;
         }
         let fields = base << BASE_SHIFT | order << ORDER_SHIFT | mask << MASK_SHIFT;
         Some(Descriptor(fields | (space as u32 + 1)))
+    }
+
+    /// The range of one selector, of its space; the mask is at most 31.
+    pub const fn at(selector: Selector, mask: u32) -> Option<Descriptor> {
+        Descriptor::new(selector.space(), selector.number(), 0, mask)
     }
 
     /// Any word as a descriptor, well-formed or not. Every word of type 0, whatever
@@ -101,11 +104,28 @@ mod tests {
 
     #[test]
     fn a_malformed_range_is_not_made() {
-        let new = |base, order, mask| Descriptor::new(Space::Memory, base, order, mask);
-        assert!(new(8, 3, 31).is_some() && new(0, 6, 0).is_some());
-        assert_eq!(new(4, 3, 31), None);
-        assert_eq!(new(0, 7, 31), None);
-        assert_eq!(new(64, 0, 31), None);
-        assert_eq!(new(0, 0, 32), None);
+        let word = |space, base, order, mask| {
+            Descriptor::new(space, base, order, mask).map(Descriptor::word)
+        };
+        for space in [Space::Memory, Space::Io] {
+            assert!(word(space, 8, 3, 31).is_some() && word(space, 0, 6, 0).is_some());
+            assert_eq!(word(space, 4, 3, 31), None);
+            assert_eq!(word(space, 0, 7, 31), None);
+            assert_eq!(word(space, 64, 0, 31), None);
+            assert_eq!(word(space, 0, 0, 32), None);
+        }
+        assert_eq!(word(Space::Object, 64, 0, 0), Some(262_147));
+        assert_eq!(word(Space::Object, 0, 7, 0), Some(899));
+        assert_eq!(word(Space::Object, 0, 8, 0), Some(1_027));
+        assert_eq!(word(Space::Object, 0, 9, 0), None);
+        assert_eq!(word(Space::Object, 64, 8, 0), None);
+        assert_eq!(word(Space::Object, 256, 0, 0), None);
+    }
+
+    #[test]
+    fn one_selector_is_a_range_of_order_0() {
+        let page = Descriptor::at(Selector::INFORMATION_PAGE, Descriptor::FULL_MASK);
+        assert_eq!(page.map(Descriptor::word), Some(258_173));
+        assert_eq!(Descriptor::at(Selector::INFORMATION_PAGE, 32), None);
     }
 }

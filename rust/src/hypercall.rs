@@ -1,7 +1,7 @@
 //! Hypercalls that have no answer.
 
 use crate::descriptor::Descriptor;
-use crate::numbers::Selector;
+use crate::numbers::ObjectSelector;
 use crate::words::{CREATE_EC, CREATE_PD, CREATE_PT, CREATE_SC, CREATE_SM, REVOKE, SM_CTRL};
 
 /// A hypercall that has no answer; [`crate::Tables::call`] and
@@ -13,18 +13,18 @@ pub enum Hypercall {
     /// Makes a protection domain.
     CreatePd {
         /// Selector of the new capability.
-        new: Selector,
+        new: ObjectSelector,
         /// Selector of a PD capability.
-        pd: Selector,
+        pd: ObjectSelector,
         /// The caller's object range that is delegated to the new domain first.
         initial: Descriptor,
     },
     /// Makes an execution context in the domain of the named PD.
     CreateEc {
         /// Selector of the new capability.
-        new: Selector,
+        new: ObjectSelector,
         /// Selector of a PD capability.
-        pd: Selector,
+        pd: ObjectSelector,
         /// The CPU, below 4.
         cpu: u32,
         /// Where the event portals begin.
@@ -33,22 +33,22 @@ pub enum Hypercall {
     /// Makes a scheduling context.
     CreateSc {
         /// Selector of the new capability.
-        new: Selector,
+        new: ObjectSelector,
         /// Selector of a PD capability.
-        pd: Selector,
+        pd: ObjectSelector,
         /// Selector of an EC capability to bind it to.
-        ec: Selector,
+        ec: ObjectSelector,
         /// Priority and quantum.
         qpd: Qpd,
     },
     /// Makes a portal.
     CreatePt {
         /// Selector of the new capability.
-        new: Selector,
+        new: ObjectSelector,
         /// Selector of a PD capability.
-        pd: Selector,
+        pd: ObjectSelector,
         /// Selector of an EC capability to bind it to.
-        ec: Selector,
+        ec: ObjectSelector,
         /// The message transfer descriptor.
         mtd: u32,
         /// The entry instruction pointer.
@@ -59,9 +59,9 @@ pub enum Hypercall {
     /// Makes a semaphore.
     CreateSm {
         /// Selector of the new capability.
-        new: Selector,
+        new: ObjectSelector,
         /// Selector of a PD capability.
-        pd: Selector,
+        pd: ObjectSelector,
         /// The first count.
         count: u32,
     },
@@ -77,7 +77,7 @@ pub enum Hypercall {
     /// Counts a semaphore up or down.
     SmCtrl {
         /// Selector of an SM capability.
-        semaphore: Selector,
+        semaphore: ObjectSelector,
         /// Which of the two.
         operation: Operation,
     },
@@ -95,16 +95,16 @@ pub enum Operation {
 /// The object selector where the event portals of an execution context begin. It
 /// is stored; no hypercall that is built uses it.
 #[derive(Clone, Copy, PartialEq, Eq, Debug, Hash)]
-pub struct EventBase(Selector);
+pub struct EventBase(ObjectSelector);
 
 impl EventBase {
     /// The event base at a selector.
-    pub const fn at(selector: Selector) -> EventBase {
+    pub const fn at(selector: ObjectSelector) -> EventBase {
         EventBase(selector)
     }
 
     /// The selector that it is at.
-    pub const fn selector(self) -> Selector {
+    pub const fn selector(self) -> ObjectSelector {
         self.0
     }
 }

@@ -9,16 +9,16 @@
 //!
 //! ```
 //! use rudozhev::{
-//!     Block, Descriptor, EventBase, Hotspot, Hypercall, Item, ObjectNumber, Refusal, Selector,
+//!     Block, Descriptor, EventBase, Hotspot, Hypercall, Item, ObjectNumber, ObjectSelector, Refusal,
 //!     Space, Tables,
 //! };
 //!
 //! # fn main() -> Result<(), Refusal> {
-//! let [pd, new_ec, new_portal] = [32, 35, 36].map(|number| Selector::new(number).unwrap());
+//! let [pd, new_ec, new_portal] = [32, 35, 36].map(|number| ObjectSelector::new(number).unwrap());
 //! let mut tables = Tables::booted();
 //! tables.hypercall(
 //!     ObjectNumber::ROOT_EC,
-//!     Hypercall::CreateEc { new: new_ec, pd, cpu: 0, event_base: EventBase::at(Selector::FIRST) },
+//!     Hypercall::CreateEc { new: new_ec, pd, cpu: 0, event_base: EventBase::at(ObjectSelector::FIRST) },
 //! )?;
 //! tables.hypercall(
 //!     ObjectNumber::ROOT_EC,
@@ -53,7 +53,7 @@ pub mod words;
 pub use descriptor::Descriptor;
 pub use hypercall::{EventBase, Hypercall, Operation, Qpd};
 pub use message::{Block, Hotspot, Item, Reason, Received, TooLong};
-pub use numbers::{Domain, ObjectNumber, Place, Selector, Space};
+pub use numbers::{Domain, ObjectNumber, ObjectSelector, Place, Selector, Space};
 pub use refusal::Refusal;
 pub use tables::{Capability, Tables};
 pub use words::{Damage, Location};

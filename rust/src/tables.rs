@@ -3,7 +3,7 @@
 use crate::descriptor::Descriptor;
 use crate::hypercall::Hypercall;
 use crate::message::Block;
-use crate::numbers::{ObjectNumber, Place, Selector};
+use crate::numbers::{ObjectNumber, ObjectSelector, Place};
 use crate::refusal::Refusal;
 use crate::words::{self, Damage, CALL, LOOKUP, OBJECT_WORDS, PLACE_WIDTH, PLACE_WORDS};
 
@@ -93,7 +93,7 @@ impl Tables {
     pub fn call(
         &mut self,
         caller: ObjectNumber,
-        portal: Selector,
+        portal: ObjectSelector,
         source: &Block,
         target: &mut Block,
     ) -> Result<u32, Refusal> {

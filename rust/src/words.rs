@@ -7,7 +7,7 @@ use crate::numbers::{ObjectNumber, Place};
 use crate::refusal::Refusal;
 
 /// Places of all domains.
-pub const PLACES: u32 = 1_536;
+pub const PLACES: u32 = 3_072;
 
 /// Words of a place: resource, permissions, parent place plus 1, depth.
 pub const PLACE_WIDTH: usize = 4;
@@ -268,7 +268,7 @@ mod tests {
         assert_eq!(read(1, 5), found(1, Location::Unknown(5)));
         assert_eq!(read(9, 63), found(9, record));
         assert_eq!(read(10, 64), found(10, place(0)));
-        assert_eq!(read(12, 1_599), found(12, place(1_535)));
-        assert_eq!(read(12, 1_600), found(12, Location::Unknown(1_600)));
+        assert_eq!(read(12, 3_135), found(12, place(3_071)));
+        assert_eq!(read(12, 3_136), found(12, Location::Unknown(3_136)));
     }
 }

@@ -7,8 +7,9 @@ use comparison::{Comparison, Difference, Words};
 use model::boot::{ROOT_EC, ROOT_SC};
 use model::generator::{journal, Kind};
 use model::journal::{Replay, Step};
-use model::layout::DOMAIN_PLACES;
+use model::layout::{CPUS, DOMAIN_PLACES, SPACE_START};
 use model::random::Random;
+use model::tables::Space;
 use model::Hypercall;
 use rudozhev::words::{BLOCK_WORDS, OBJECT_WORDS, PLACE_WIDTH, PLACE_WORDS, RECORD_WIDTH};
 
@@ -109,7 +110,8 @@ fn damage_agrees_on_any_number_of_domains() -> Result<(), Difference> {
 }
 
 /// Tables in which the root's pages came from domain 2's, in runs of any length
-/// and distance, and the root has a portal to domain 2 at selector 37.
+/// and distance, and its objects too where it has none of its own; and the root has
+/// a portal to domain 2 at selector 37.
 fn borrowed(all: &mut Comparison, random: &mut Random) -> Result<Words, Difference> {
     let mut tables = booted(all)?;
     for (call, arguments) in [
@@ -126,16 +128,27 @@ fn borrowed(all: &mut Comparison, random: &mut Random) -> Result<Words, Differen
         let start = place as usize * PLACE_WIDTH;
         tables.places[start..start + PLACE_WIDTH].copy_from_slice(&words);
     };
-    let mut distance = 0;
-    for page in 0..64 {
-        put(2 * DOMAIN_PLACES + page, [page, 7, page + 1, 1]);
-        if random.percent(15) {
-            distance = random.below(64);
-        }
-        if random.percent(95) {
-            let lent = (page + distance) % 64;
-            let parent = 2 * DOMAIN_PLACES + lent;
-            put(DOMAIN_PLACES + page, [lent, 1 + random.below(7), parent + 1, 2]);
+    for space in [Space::Memory, Space::Object] {
+        let (start, selectors) = (SPACE_START[space as usize], space.selectors());
+        // Each page is of its own number; all objects are the first interrupt semaphore.
+        let (most, resource): (u32, fn(u32) -> u32) = match space {
+            Space::Object => (3, |_| CPUS),
+            _ => (7, |selector| selector),
+        };
+        let mut distance = 0;
+        for selector in 0..selectors {
+            let lender = start + resource(selector);
+            put(2 * DOMAIN_PLACES + start + selector, [resource(selector), most, lender + 1, 1]);
+            if random.percent(15) {
+                distance = random.below(selectors);
+            }
+            let own = space == Space::Object && (32..38).contains(&selector);
+            if !own && random.percent(95) {
+                let lent = (selector + distance) % selectors;
+                let parent = 2 * DOMAIN_PLACES + start + lent;
+                let words = [resource(lent), 1 + random.below(most), parent + 1, 2];
+                put(DOMAIN_PLACES + start + selector, words);
+            }
         }
     }
     assert_eq!(all.damage(&tables)?, None);
@@ -146,31 +159,33 @@ fn borrowed(all: &mut Comparison, random: &mut Random) -> Result<Words, Differen
 fn translations_agree() -> Result<(), Difference> {
     let mut all = Comparison::new(9);
     let mut random = Random::new(9);
-    let range = |random: &mut Random, order: u32| {
-        let base = random.below(64) >> order << order;
-        base << 12 | order << 7 | random.below(32) << 2 | 1
+    let range = |random: &mut Random, space: Space, order: u32| {
+        let base = random.below(space.selectors()) >> order << order;
+        base << 12 | order << 7 | random.below(32) << 2 | (space as u32 + 1)
     };
-    let [mut shown, mut null] = [0, 0];
-    for _ in 0..200 {
-        let mut tables = borrowed(&mut all, &mut random)?;
-        for _ in 0..10 {
-            let (mut source, mut target) = ([0; BLOCK_WORDS], [0; BLOCK_WORDS]);
-            source[0] = 30 << 16;
-            for item in source[4..].chunks_mut(2) {
-                let order = random.below(4);
-                item[1] = range(&mut random, order);
+    for space in [Space::Memory, Space::Object] {
+        let [mut shown, mut null] = [0, 0];
+        for _ in 0..200 {
+            let mut tables = borrowed(&mut all, &mut random)?;
+            for _ in 0..10 {
+                let (mut source, mut target) = ([0; BLOCK_WORDS], [0; BLOCK_WORDS]);
+                source[0] = 30 << 16;
+                for item in source[4..].chunks_mut(2) {
+                    let order = random.below(4);
+                    item[1] = range(&mut random, space, order);
+                }
+                let order = space.order_limit() - random.below(3);
+                target[1] = range(&mut random, space, order);
+                let call = Hypercall::Call.number();
+                let arguments = [37, 0, 0, 0, 0, 0];
+                all.hypercall(&mut tables, call, ROOT_EC, arguments, &source, &mut target)?;
+                let count = target[4..].chunks(2).filter(|item| item[1] != 0).count();
+                shown += count;
+                null += 30 - count;
             }
-            let order = 4 + random.below(3);
-            target[1] = range(&mut random, order);
-            let call = Hypercall::Call.number();
-            let arguments = [37, 0, 0, 0, 0, 0];
-            all.hypercall(&mut tables, call, ROOT_EC, arguments, &source, &mut target)?;
-            let count = target[4..].chunks(2).filter(|item| item[1] != 0).count();
-            shown += count;
-            null += 30 - count;
         }
+        assert!(shown > 10_000 && null > 10_000, "{space:?}: {shown} shown, {null} null");
     }
-    assert!(shown > 10_000 && null > 10_000, "{shown} shown, {null} null");
     Ok(())
 }
 

@@ -3,8 +3,8 @@
 use rudozhev::words::{OBJECT_WORDS, PLACE_WIDTH, PLACE_WORDS};
 use rudozhev::{
     words, Block, Capability, Damage, Descriptor, Domain, EventBase, Hotspot, Hypercall, Item,
-    Location, ObjectNumber, Operation, Place, Qpd, Reason, Received, Refusal, Selector, Space,
-    Tables,
+    Location, ObjectNumber, ObjectSelector, Operation, Place, Qpd, Reason, Received, Refusal,
+    Selector, Space, Tables,
 };
 
 const ROOT_EC: ObjectNumber = ObjectNumber::ROOT_EC;
@@ -12,8 +12,12 @@ const ROOT_EC: ObjectNumber = ObjectNumber::ROOT_EC;
 /// The objects that `partners` makes second and fourth.
 const CHILD_EC: u32 = 32;
 
-fn selector(number: u32) -> Selector {
-    Selector::new(number).expect("a selector")
+fn selector(number: u32) -> ObjectSelector {
+    ObjectSelector::new(number).expect("an object selector")
+}
+
+fn page(number: u32) -> Selector {
+    Selector::new(Space::Memory, number).expect("a page")
 }
 
 fn object(number: u32) -> ObjectNumber {
@@ -29,7 +33,7 @@ fn range(space: Space, base: u32, order: u32, mask: u32) -> Descriptor {
 fn partners() -> Result<Tables, Refusal> {
     let mut tables = Tables::booted();
     let pd = selector(32);
-    let event_base = EventBase::at(Selector::FIRST);
+    let event_base = EventBase::at(ObjectSelector::FIRST);
     let portal = |new, ec| Hypercall::CreatePt {
         new: selector(new),
         pd,
@@ -74,7 +78,7 @@ fn boot_makes_sound_tables() {
     let tables = Tables::booted();
     assert!(tables.is_sound());
     assert_eq!(tables.damage(), None);
-    let page = Place::new(Domain::HYPERVISOR, Space::Memory, selector(63));
+    let page = Place::new(Domain::HYPERVISOR, page(63));
     let held = Capability { resource: 63, permissions: 7, parent: None, depth: 0 };
     assert_eq!(tables.capability(page), Some(held));
     let zeroed = Damage { rule: 2, at: Location::Record(object(0)) };
@@ -89,12 +93,12 @@ fn boot_lends_two_pages_to_the_root() -> Result<(), Refusal> {
         [(Selector::ROOT_UTCB_PAGE, 3, 253_965), (Selector::INFORMATION_PAGE, 1, 258_053)]
     {
         let mut tables = booted.clone();
-        let [lender, own] = [Domain::HYPERVISOR, Domain::ROOT]
-            .map(|domain| Place::new(domain, Space::Memory, page));
+        let [lender, own] =
+            [Domain::HYPERVISOR, Domain::ROOT].map(|domain| Place::new(domain, page));
         let resource = page.number();
         let lent = Capability { resource, permissions, parent: Some(lender), depth: 1 };
         assert_eq!(tables.capability(own), Some(lent));
-        let there = range(Space::Memory, page.number(), 0, Descriptor::FULL_MASK);
+        let there = Descriptor::at(page, Descriptor::FULL_MASK).expect("a mask");
         assert_eq!(tables.lookup(ROOT_EC, there)?.map(Descriptor::word), Some(answer));
         assert!(tables.census(lender, &mut [0; 2])?.eq([own]));
 
@@ -110,10 +114,7 @@ fn boot_lends_two_pages_to_the_root() -> Result<(), Refusal> {
         assert_eq!(tables.census(lender, &mut [])?.count(), 0);
     }
     for number in 0..62 {
-        assert_eq!(
-            booted.capability(Place::new(Domain::ROOT, Space::Memory, selector(number))),
-            None
-        );
+        assert_eq!(booted.capability(Place::new(Domain::ROOT, page(number))), None);
     }
     Ok(())
 }
@@ -225,6 +226,56 @@ fn the_hotspot_selects_the_part_of_the_window() -> Result<(), Refusal> {
 }
 
 #[test]
+fn objects_are_lent_and_found_above_selector_63() -> Result<(), Refusal> {
+    let mut tables = partners()?;
+    let window = range(Space::Object, 192, 4, 0);
+    assert_eq!(lend(&mut tables, 39, range(Space::Object, 0, 4, 1), window, true)?, 16);
+    let one = range(Space::Object, 200, 0, 0);
+    assert_eq!(tables.lookup(ROOT_EC, one)?.map(Descriptor::word), Some(786_951));
+    let [lender, heir] = [(Domain::HYPERVISOR, 8), (Domain::ROOT, 200)]
+        .map(|(domain, number)| Place::new(domain, selector(number).selector()));
+    assert!(tables.census(lender, &mut [0])?.eq([heir]));
+    assert_eq!(heir.selector(), selector(200).selector());
+
+    let all = range(Space::Object, 0, Space::Object.greatest_order(), Descriptor::FULL_MASK);
+    tables.hypercall(ROOT_EC, Hypercall::Revoke { range: all, with_self: true })?;
+    assert_eq!(tables.lookup(ROOT_EC, one)?, None);
+    assert_eq!(tables.census(lender, &mut [])?.count(), 0);
+    Ok(())
+}
+
+#[test]
+fn a_chain_of_63_delegations_stands_and_no_64th_is_made() -> Result<(), Refusal> {
+    let mut tables = partners()?;
+    let create = Hypercall::CreateSm { new: selector(64), pd: selector(32), count: 0 };
+    tables.hypercall(ROOT_EC, create)?;
+    let one = |number| range(Space::Object, number, 0, 3);
+    for number in 64..127 {
+        assert_eq!(lend(&mut tables, 39, one(number), one(number + 1), false)?, 1);
+    }
+    assert_eq!(lend(&mut tables, 39, one(127), one(128), false)?, 0);
+    assert!(tables.is_sound());
+    let place = |number: u32| Place::new(Domain::ROOT, selector(number).selector());
+    assert_eq!(tables.capability(place(127)).map(|held| held.depth), Some(63));
+    assert_eq!(tables.capability(place(128)), None);
+    assert!(tables.census(place(64), &mut [0; 63])?.eq((65..128).map(place)));
+
+    // The nearest ancestor of its end is the place before; the child has none of the chain.
+    let everything = range(Space::Object, 0, 8, 0);
+    for (portal, shown) in [
+        (39, Received::Translated(one(126))),
+        (37, Received::NotTranslated(Reason::TranslationBroke)),
+    ] {
+        let (mut source, mut target) = (Block::new(), Block::new());
+        target.set_windows(everything, Descriptor::NULL);
+        source.set_message(&[], &[Item::Translate { range: one(127) }]).expect("a short message");
+        assert_eq!(tables.call(ROOT_EC, selector(portal), &source, &mut target)?, 0);
+        assert!(target.received().eq([shown]));
+    }
+    Ok(())
+}
+
+#[test]
 fn a_null_item_says_why() -> Result<(), Refusal> {
     let mut tables = partners()?;
     let before = tables.clone();
@@ -288,8 +339,8 @@ fn what_is_lent_is_seen_translated_and_revoked() -> Result<(), Refusal> {
     let broke = Received::NotTranslated(Reason::TranslationBroke);
     assert_eq!(received, [Received::Translated(own), broke]);
 
-    let place = Place::new(Domain::ROOT, Space::Memory, selector(8));
-    let heir = Place::new(Domain::new(2).expect("a domain"), Space::Memory, selector(20));
+    let place = Place::new(Domain::ROOT, page(8));
+    let heir = Place::new(Domain::new(2).expect("a domain"), page(20));
     let short = tables.census(place, &mut []).err();
     assert_eq!(short, Some(Refusal::Short { needed: 1 }));
     assert!(tables.census(place, &mut [0; 4])?.eq([heir]));
@@ -307,7 +358,7 @@ fn a_refusal_is_a_value_and_changes_nothing() -> Result<(), Refusal> {
     let mut tables = partners()?;
     let before = tables.clone();
     let [taken, free, pd] = [35, 50, 32].map(selector);
-    let event_base = EventBase::at(Selector::FIRST);
+    let event_base = EventBase::at(ObjectSelector::FIRST);
     let qpd = Qpd::new(0, 10).expect("a quantum of 20 bits");
     let refused = [
         (Hypercall::CreateSm { new: taken, pd, count: 0 }, Refusal::BadCap),
@@ -334,7 +385,7 @@ fn damaged_tables_are_refused_by_that_name() {
     let booted = Tables::booted();
     let mut places: [u32; PLACE_WORDS] = *booted.place_words();
     let objects: [u32; OBJECT_WORDS] = *booted.object_words();
-    let place = Place::new(Domain::ROOT, Space::Object, selector(50));
+    let place = Place::new(Domain::ROOT, selector(50).selector());
     places[place.number() as usize * 4] = 1;
     let mut tables = Tables::from_words(places, objects);
     assert_eq!(tables.damage(), Some(Damage { rule: 10, at: Location::Place(place) }));

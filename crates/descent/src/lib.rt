@@ -182,7 +182,7 @@ pub fn mark_below(table: &[u32], first: Place, size: u32, marked: &mut [u32; MAR
     ensures { λ r. ⌜ Marked (below (capAt (now (table .entry))) (first .0) size) (now (marked .exit)) × (length (now (marked .exit)) ≡ markWords) ⌝ }
 {
     let space = first.space();
-    let mut known = marks::blank();
+    let mut known = marks::blank(table);
     let mut walked = 0u32;
     while walked < sizes::PLACES {
         let from = Place::counted(walked);

@@ -17,7 +17,7 @@ use Rattle.interface.specs.Basics.{if_then_else_, word}
 use Rattle.interface.specs.Places.{Cap, State, Tables, live, capAt, shown, parentless, free, PD, EC, SC, PT, SM, domainWord, ecWord, kindOf, greatestOf, objectPlace, objectIn}
 use Rattle.interface.specs.Boot.{hypervisor, root}
 use Rattle.interface.specs.Damage.{sound}
-use Rattle.interface.specs.RangeDescriptors.{describe, reading}
+use Rattle.interface.specs.RangeDescriptors.{orderField, describe, reading}
 use Rattle.interface.specs.Effects.{Effect, give, among, below, stripped, run}
 use Rattle.interface.specs.Verdicts.{Call, CALL, CREATE-PD, REVOKE, LOOKUP, callerDomain, replyOf, effectsOf, blockOf}
 use Rattle.interface.specs.Creations.{newPlace, freeRecord, nextDomain}
@@ -90,6 +90,10 @@ NothingIsNothing =
       order = order;
       mask = s .caps (placeOf (callerDomain s c) (range .space) (range .base)) .permissions;
     })))
+
+-- A range that LOOKUP answers has at most 64 selectors, in the object space too: each of its places names a resource of its own, and of pages, ports and objects there are 64 each
+abbrev pub AnswersFew : Type 0
+AnswersFew = (s : State) (c : Call) (answer : ℕ) → c .number ≡ LOOKUP → replyOf (rules s c) ≡ Success answer → orderField answer ≤ 6
 
 -- a step of a list that delegates to a place
 pub data Delegates (destination source mask : ℕ) : List Effect → Type 0 where

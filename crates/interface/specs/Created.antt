@@ -36,7 +36,7 @@ pub record PdCreated (s : State) (c : Call) (number : ℕ) : Type 0 where
   pub has-pd-now : hasPd (after s c) (pdsBelow s records + 1) ≡ true
   pub places-stay : (place : ℕ) → (place ≡ newPlace s c → ⊥) → (domainOf place ≡ pdsBelow s records + 1 → ⊥) → after s c .caps place ≡ s .caps place
 
--- a new EC has the domain of the named PD, the CPU, and the event base modulo 64
+-- a new EC has the domain of the named PD, the CPU, and the event base modulo 256
 pub record EcCreated (s : State) (c : Call) (number : ℕ) : Type 0 where
   pub created : Created s c EC number
   pub domain-told : after s c .objects number domainWord ≡ s .objects (objectIn s (pdPlace s c)) domainWord

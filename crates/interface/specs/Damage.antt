@@ -137,7 +137,7 @@ live-place s p =
     lineageKeeps s p
     else true
 
--- 12: no depth exceeds 31
+-- 12: no depth exceeds 63
 unfoldable pub shallow : State → ℕ → Bool
 shallow s p = leb (s .caps p .depth) greatestDepth
 

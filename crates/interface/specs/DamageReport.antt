@@ -36,7 +36,7 @@ placeKeeps s number p =
 -- every record and every place keeps the rule of a number
 pub record Intact (s : State) (number : ℕ) : Type 0 where
   pub of-records : (r : ℕ) → r < 64 → recordKeeps s number r ≡ true
-  pub of-places : (p : ℕ) → p < 1536 → placeKeeps s number p ≡ true
+  pub of-places : (p : ℕ) → p < 3072 → placeKeeps s number p ≡ true
 
 -- a record is where the first broken rule is broken: it breaks that rule, no lower record does, and every rule of a lower number is intact
 pub record FirstAtRecord (s : State) (number r : ℕ) : Type 0 where
@@ -47,7 +47,7 @@ pub record FirstAtRecord (s : State) (number r : ℕ) : Type 0 where
 
 -- a place is where the first broken rule is broken: it breaks that rule, no record does and no lower place, and every rule of a lower number is intact
 pub record FirstAtPlace (s : State) (number p : ℕ) : Type 0 where
-  pub is-place : p < 1536
+  pub is-place : p < 3072
   pub breaks : placeKeeps s number p ≡ false
   pub lower-keep : (lower : ℕ) → lower < p → placeKeeps s number lower ≡ true
   pub records-keep : (r : ℕ) → r < 64 → recordKeeps s number r ≡ true
@@ -57,7 +57,7 @@ pub record FirstAtPlace (s : State) (number p : ℕ) : Type 0 where
 -- The rules after the first are numbered 2 to 12
 pub record DamageNamed : Type 0 where
   pub no-fault : (tables : Tables) → (fault tables ≡ NoFault) ↔ (sound tables ≡ true)
-  pub lengths : (tables : Tables) → (fault tables ≡ Lengths) ↔ ((length (tables .places) ≡ 6144) × (length (tables .objects) ≡ 320) → ⊥)
+  pub lengths : (tables : Tables) → (fault tables ≡ Lengths) ↔ ((length (tables .places) ≡ 12288) × (length (tables .objects) ≡ 320) → ⊥)
   pub at-record : (tables : Tables) (number r : ℕ) → fault tables ≡ AtRecord number r → FirstAtRecord (shown tables) number r
   pub at-place : (tables : Tables) (number p : ℕ) → fault tables ≡ AtPlace number p → FirstAtPlace (shown tables) number p
   pub rule-numbers : map (λ (rule : Rule). rule .number) rulesOfDamage ≡ 2 ∷ 3 ∷ 4 ∷ 5 ∷ 6 ∷ 7 ∷ 8 ∷ 9 ∷ 10 ∷ 11 ∷ 12 ∷ []

@@ -30,10 +30,10 @@ use Rattle.interface.specs.Consequences.{calleeDomain}
 
 -- One delegation.
 
--- it is due where the source is live and its depth below 31, the destination is null, and the source's permissions AND the mask are not 0
+-- it is due where the source is live and its depth below 63, the destination is null, and the source's permissions AND the mask are not 0
 pub record Due (s : State) (destination source mask : ℕ) : Type 0 where
   pub source-live : live (s .caps source) ≡ true
-  pub depth-left : s .caps source .depth < 31
+  pub depth-left : s .caps source .depth < 63
   pub destination-null : live (s .caps destination) ≡ false
   pub permissions-left : bitAnd (s .caps source .permissions) mask ≡ 0 → ⊥
 

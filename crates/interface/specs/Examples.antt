@@ -1,10 +1,10 @@
 -- The worked examples of the interface (docs/INTERFACE.md has them in words), as one list of statements under one name; one whole message and one initial range; the journal's example
 -- and where the reading of a journal stops; and the numbers of the layout.
-use Prim.Native.Nat.{ℕ, zero, suc, _+_}
+use Prim.Native.Nat.{ℕ, zero, suc, _+_, _-_}
 use mathlib.Core.Path.{_≡_}
-use mathlib.Core.Bool.{Bool, true, false}
+use mathlib.Core.Bool.{Bool, true, false, _&&_}
 use mathlib.Core.List.{List, [], _∷_, _++_}
-use lib.Dec.{eqb}
+use lib.Dec.{eqb, leb, ltb}
 use Rattle.words.specs.Sizes.{memory, object, placeOf, io, places, recordWords, blockWords, domains, records, greatestDepth}
 use Rattle.words.specs.Fields.{greatestWord}
 use Rattle.words.specs.Permissions.{delegated, permits}
@@ -24,7 +24,7 @@ use Rattle.interface.specs.Rules.{rules, after, rule, not-built, hyperca
 use Rattle.interface.specs.Journal.{done, short, unknown, ended, replay, spelledLines, bodyBytes}
 use Rattle.reply.specs.Replies.{statusOf, answerOf}
 use Rattle.interface.specs.Creations.{priority, quantum, createPd, createEc, createSc, createPt, createSm}
-use Rattle.interface.specs.Lookup.{lookup}
+use Rattle.interface.specs.Lookup.{around, lookup}
 use Rattle.interface.specs.Semaphores.{up, down, smCtrl}
 use Rattle.interface.specs.PortalCalls.{portalCall}
 
@@ -65,13 +65,13 @@ lineAfter self = run (cuts hypervisor self (reading (wordOf (typeOf memory) 2 0 
 abbrev pub linePermissions : State → List ℕ
 linePermissions s = s .caps 0 .permissions ∷ s .caps 1 .permissions ∷ s .caps 2 .permissions ∷ []
 
--- the root's LOOKUP of a selector in a space after boot
-abbrev pub rootLookup : ℕ → ℕ → Call
-rootLookup space selector =
+-- LOOKUP (29, descriptor), by the root's EC
+abbrev pub rootLookup : ℕ → Call
+rootLookup descriptor =
     record {
       number = LOOKUP;
       caller = rootEc;
-      first = wordOf (typeOf space) 0 0 selector;
+      first = descriptor;
       second = 0;
       third = 0;
       fourth = 0;
@@ -81,16 +81,20 @@ rootLookup space selector =
       target = [];
     }
 
--- the line of descent as the manual places it, on boot's tables with two more domains: root page 8 (place 200) holds hypervisor page 8 with permissions 7; domain 2's page 8 (place
--- 392) holds it from there with 3; and domain 3's page 8 (place 584) holds it from domain 2 with 2. Records 31 and 32 are the PDs of domains 2 and 3
+-- the descriptor by which it asks for a selector of a space
+abbrev pub selectorWord : ℕ → ℕ → ℕ
+selectorWord space selector = wordOf (typeOf space) 0 0 selector
+
+-- the line of descent as the manual places it, on boot's tables with two more domains: root page 8 (place 392) holds hypervisor page 8 with permissions 7; domain 2's page 8 (place
+-- 776) holds it from there with 3; and domain 3's page 8 (place 1160) holds it from domain 2 with 2. Records 31 and 32 are the PDs of domains 2 and 3
 abbrev pub placedLine : State
 placedLine =
     record {
       caps =
           λ place.
-          if eqb place 200 then record { resource = 8; permissions = 7; parent = 9; depth = 1 } else
-          if eqb place 392 then record { resource = 8; permissions = 3; parent = 201; depth = 2 } else
-          if eqb place 584 then record { resource = 8; permissions = 2; parent = 393; depth = 3 } else
+          if eqb place 392 then record { resource = 8; permissions = 7; parent = 9; depth = 1 } else
+          if eqb place 776 then record { resource = 8; permissions = 3; parent = 393; depth = 2 } else
+          if eqb place 1160 then record { resource = 8; permissions = 2; parent = 777; depth = 3 } else
           boot .caps place;
       objects =
           λ number.
@@ -110,7 +114,7 @@ revokeLine self = rootRevoke 32777 self
 
 -- what the three places show after it
 abbrev pub lineRevoked : ℕ → List Cap
-lineRevoked self = let later = after placedLine (revokeLine self) in later .caps 200 ∷ later .caps 392 ∷ later .caps 584 ∷ []
+lineRevoked self = let later = after placedLine (revokeLine self) in later .caps 392 ∷ later .caps 776 ∷ later .caps 1160 ∷ []
 
 -- the examples of the line as calls on sound tables, and those of alignment and order for objects
 abbrev pub calledExamples : List (Type 0)
@@ -121,11 +125,11 @@ calledExamples =
     ∷  -- self 0 succeeds and leaves 7, 1, null
     (replyOf (rules placedLine (revokeLine 0)) ≡ Success 0)
     ∷ (lineRevoked 0 ≡
-    record { resource = 8; permissions = 7; parent = 9; depth = 1 } ∷ record { resource = 8; permissions = 1; parent = 201; depth = 2 } ∷ nothing ∷ [])
+    record { resource = 8; permissions = 7; parent = 9; depth = 1 } ∷ record { resource = 8; permissions = 1; parent = 393; depth = 2 } ∷ nothing ∷ [])
     ∷  -- self 1 succeeds and leaves 5, 1, null
     (replyOf (rules placedLine (revokeLine 1)) ≡ Success 0)
     ∷ (lineRevoked 1 ≡
-    record { resource = 8; permissions = 5; parent = 9; depth = 1 } ∷ record { resource = 8; permissions = 1; parent = 201; depth = 2 } ∷ nothing ∷ [])
+    record { resource = 8; permissions = 5; parent = 9; depth = 1 } ∷ record { resource = 8; permissions = 1; parent = 393; depth = 2 } ∷ nothing ∷ [])
     ∷  -- the tables stay sound, and hypervisor page 8 keeps its permissions
     (soundState (after placedLine (revokeLine 1)) ≡ true)
     ∷ (after placedLine (revokeLine 1) .caps 8 ≡ record { resource = 8; permissions = 7; parent = 0; depth = 0 })
@@ -153,6 +157,37 @@ maskExamples =
     ∷ (replyOf (rules boot (rootRevoke 32 0)) ≡ Success 0)
     ∷ [])
 
+-- boot's tables with the hypervisor's objects 0 to 15 delegated with mask 1 to the root's selectors 192 to 207 (places 704 to 719)
+abbrev pub objectsTaken : State
+objectsTaken =
+    record {
+      caps =
+          λ place.
+          if leb 704 place && ltb place 720 then record { resource = place - 704; permissions = 1; parent = place - 575; depth = 1 } else
+          boot .caps place;
+      objects = boot .objects;
+    }
+
+-- a space in which each selector shows the resource of its own number
+abbrev pub risingCaps : ℕ → Cap
+risingCaps selector = record { resource = selector; permissions = 1; parent = 0; depth = 0 }
+
+-- what LOOKUP answers for the whole object space, and around selectors above 63
+abbrev pub lookupExamples : List (Type 0)
+lookupExamples =
+    ( -- the whole object space, order 8, is asked for by its base, which is null after boot; order 9 is malformed
+    (replyOf (rules boot (rootLookup 1027)) ≡ Success 0)
+    ∷ (replyOf (rules boot (rootLookup 1155)) ≡ BadPar)
+    ∷  -- where the root has taken objects 0 to 15, the range around selector 200 is 192 of order 4, and base 456 asks for the same
+    (soundState objectsTaken ≡ true)
+    ∷ (replyOf (rules objectsTaken (rootLookup (selectorWord object 200))) ≡ Success 786951)
+    ∷ (replyOf (rules objectsTaken (rootLookup (selectorWord object 456))) ≡ Success 786951)
+    ∷ (replyOf (rules objectsTaken (rootLookup (selectorWord object 208))) ≡ Success 0)
+    ∷  -- the search goes up to order 8 among objects, and to order 6 in memory
+    (around risingCaps object 200 ≡ record { space = object; base = 0; order = 8; mask = 1 })
+    ∷ (around risingCaps memory 40 ≡ record { space = memory; base = 0; order = 6; mask = 1 })
+    ∷ [])
+
 -- the worked examples
 abbrev pub WorkedExamples : Type 0
 WorkedExamples =
@@ -164,12 +199,19 @@ WorkedExamples =
     ∷  -- base 8 of order 3 is good, base 4 malformed
     (reading (descriptorWord memory 8 3) ≡ Good (record { space = memory; base = 8; order = 3; mask = 31 }))
     ∷ (reading (descriptorWord memory 4 3) ≡ Malformed)
-    ∷  -- order 6 at base 0 is good, order 7 malformed
+    ∷  -- order 6 of memory at base 0 is good, order 7 malformed, and so of I/O
     (reading (descriptorWord memory 0 6) ≡ Good (record { space = memory; base = 0; order = 6; mask = 31 }))
     ∷ (reading (descriptorWord memory 0 7) ≡ Malformed)
-    ∷ (reading (descriptorWord object 0 7) ≡ Malformed)
-    ∷  -- object base 64 is 0; memory base 64 is malformed
-    (reading (descriptorWord object 64 0) ≡ Good (record { space = object; base = 0; order = 0; mask = 31 }))
+    ∷ (reading (descriptorWord io 0 6) ≡ Good (record { space = io; base = 0; order = 6; mask = 31 }))
+    ∷ (reading (descriptorWord io 0 7) ≡ Malformed)
+    ∷  -- of objects orders 7 and 8 are good, order 9 malformed; and base 64 is no multiple of 256
+    (reading (descriptorWord object 128 7) ≡ Good (record { space = object; base = 128; order = 7; mask = 31 }))
+    ∷ (reading (descriptorWord object 0 8) ≡ Good (record { space = object; base = 0; order = 8; mask = 31 }))
+    ∷ (reading (descriptorWord object 0 9) ≡ Malformed)
+    ∷ (reading (descriptorWord object 64 8) ≡ Malformed)
+    ∷  -- object base 256 is 0, and 64 stays; memory base 64 is malformed
+    (reading (descriptorWord object 256 0) ≡ Good (record { space = object; base = 0; order = 0; mask = 31 }))
+    ∷ (reading (descriptorWord object 64 0) ≡ Good (record { space = object; base = 64; order = 0; mask = 31 }))
     ∷ (reading (descriptorWord memory 64 0) ≡ Malformed)
     ∷  -- permissions 7 with mask 3 give 3, with mask 0 nothing
     (delegated 7 3 ≡ 3)
@@ -181,16 +223,18 @@ WorkedExamples =
     ∷ (linePermissions (lineAfter true) ≡ 5 ∷ 1 ∷ 0 ∷ [])
     ∷ (lineAfter true .caps 2 ≡ nothing)
     ∷  -- the root's LOOKUP of object selectors after boot: 131199 at 32, 0 at 35
-    (replyOf (rules boot (rootLookup object 32)) ≡ Success 131199)
-    ∷ (replyOf (rules boot (rootLookup object 35)) ≡ Success 0)
+    (replyOf (rules boot (rootLookup (selectorWord object 32))) ≡ Success 131199)
+    ∷ (replyOf (rules boot (rootLookup (selectorWord object 35))) ≡ Success 0)
     ∷  -- and of its pages: 258053 at 63, 253965 at 62, 0 at 61
-    (replyOf (rules boot (rootLookup memory 63)) ≡ Success 258053)
-    ∷ (replyOf (rules boot (rootLookup memory 62)) ≡ Success 253965)
-    ∷ (replyOf (rules boot (rootLookup memory 61)) ≡ Success 0)
+    (replyOf (rules boot (rootLookup (selectorWord memory 63))) ≡ Success 258053)
+    ∷ (replyOf (rules boot (rootLookup (selectorWord memory 62))) ≡ Success 253965)
+    ∷ (replyOf (rules boot (rootLookup (selectorWord memory 61))) ≡ Success 0)
     ∷  -- the line as calls, and objects' alignment and orders
     Each calledExamples
     ∷  -- the masks of REVOKE
     Each maskExamples
+    ∷  -- LOOKUP of large ranges and above selector 63
+    Each lookupExamples
     ∷ [])
 
 -- a page that was delegated: its number, its permissions, the place it came from, its depth
@@ -411,12 +455,12 @@ LayoutNumbers =
     answerOf BadCaller ∷ answerOf (Short 9) ∷ [] ≡
     9 ∷ 0 ∷ 0 ∷ 0 ∷ 0 ∷ 0 ∷ 0 ∷ 0 ∷ 0 ∷ 9 ∷ [])
     ∷  -- places: the first of domain 0's I/O and object spaces, the root's PD, the last of all; how many there are, and the words of both tables
-    (placeOf 0 1 0 ∷ placeOf 0 2 0 ∷ placeOf 1 2 32 ∷ placeOf 7 2 63 ∷ places ∷ placeTableWords ∷ objectTableWords ∷ [] ≡
-    64 ∷ 128 ∷ 352 ∷ 1535 ∷ 1536 ∷ 6144 ∷ 320 ∷ [])
+    (placeOf 0 1 0 ∷ placeOf 0 2 0 ∷ placeOf 1 2 32 ∷ placeOf 7 2 255 ∷ places ∷ placeTableWords ∷ objectTableWords ∷ [] ≡
+    64 ∷ 128 ∷ 544 ∷ 3071 ∷ 3072 ∷ 12288 ∷ 320 ∷ [])
     ∷  -- domains, records and the words of one, CPUs, interrupts, the greatest depth and the greatest word
-    (domains ∷ records ∷ recordWords ∷ cpus ∷ gsis ∷ greatestDepth ∷ greatestWord ∷ [] ≡ 8 ∷ 64 ∷ 5 ∷ 4 ∷ 24 ∷ 31 ∷ 4294967295 ∷ [])
-    ∷  -- an object selector wraps: the root's 96 is its 32
-    (objectPlace 1 96 ≡ 352)
+    (domains ∷ records ∷ recordWords ∷ cpus ∷ gsis ∷ greatestDepth ∷ greatestWord ∷ [] ≡ 8 ∷ 64 ∷ 5 ∷ 4 ∷ 24 ∷ 63 ∷ 4294967295 ∷ [])
+    ∷  -- an object selector wraps: the root's 288 is its 32, and its 96 stays
+    (objectPlace 1 288 ∷ objectPlace 1 96 ∷ [] ≡ 544 ∷ 608 ∷ [])
     ∷ [])
 
 -- the words of records and places at boot
@@ -440,18 +484,18 @@ BootNumbers =
     ∷ (bootPlace 155 ≡ 27 ∷ 3 ∷ 0 ∷ 0 ∷ [])
     ∷ (bootPlace 156 ≡ 0 ∷ 0 ∷ 0 ∷ 0 ∷ [])
     ∷  -- the UTCB of the root's EC and the information page, and the null places around them
-    (bootPlace 253 ≡ 0 ∷ 0 ∷ 0 ∷ 0 ∷ [])
-    ∷ (bootPlace 254 ≡ 62 ∷ 3 ∷ 63 ∷ 1 ∷ [])
-    ∷ (bootPlace 255 ≡ 63 ∷ 1 ∷ 64 ∷ 1 ∷ [])
-    ∷ (bootPlace 256 ≡ 0 ∷ 0 ∷ 0 ∷ 0 ∷ [])
+    (bootPlace 445 ≡ 0 ∷ 0 ∷ 0 ∷ 0 ∷ [])
+    ∷ (bootPlace 446 ≡ 62 ∷ 3 ∷ 63 ∷ 1 ∷ [])
+    ∷ (bootPlace 447 ≡ 63 ∷ 1 ∷ 64 ∷ 1 ∷ [])
+    ∷ (bootPlace 448 ≡ 0 ∷ 0 ∷ 0 ∷ 0 ∷ [])
     ∷  -- the root's PD, EC and SC, the null places around them, its page 0, and a place of domain 2
-    (bootPlace 351 ≡ 0 ∷ 0 ∷ 0 ∷ 0 ∷ [])
-    ∷ (bootPlace 352 ≡ 28 ∷ 31 ∷ 0 ∷ 0 ∷ [])
-    ∷ (bootPlace 353 ≡ 29 ∷ 7 ∷ 0 ∷ 0 ∷ [])
-    ∷ (bootPlace 354 ≡ 30 ∷ 1 ∷ 0 ∷ 0 ∷ [])
-    ∷ (bootPlace 355 ≡ 0 ∷ 0 ∷ 0 ∷ 0 ∷ [])
-    ∷ (bootPlace 192 ≡ 0 ∷ 0 ∷ 0 ∷ 0 ∷ [])
+    (bootPlace 543 ≡ 0 ∷ 0 ∷ 0 ∷ 0 ∷ [])
+    ∷ (bootPlace 544 ≡ 28 ∷ 31 ∷ 0 ∷ 0 ∷ [])
+    ∷ (bootPlace 545 ≡ 29 ∷ 7 ∷ 0 ∷ 0 ∷ [])
+    ∷ (bootPlace 546 ≡ 30 ∷ 1 ∷ 0 ∷ 0 ∷ [])
+    ∷ (bootPlace 547 ≡ 0 ∷ 0 ∷ 0 ∷ 0 ∷ [])
     ∷ (bootPlace 384 ≡ 0 ∷ 0 ∷ 0 ∷ 0 ∷ [])
+    ∷ (bootPlace 768 ≡ 0 ∷ 0 ∷ 0 ∷ 0 ∷ [])
     ∷ [])
 
 -- the fields of words, and the words of a message block

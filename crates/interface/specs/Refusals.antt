@@ -49,11 +49,12 @@ infixr 3 _and-then_
 abbrev pub _and-then_ : Type 0 → Type 0 → Type 0
 passed and-then cause = passed × cause
 
--- a word that is no descriptor: its type is not 0, and its order is above 6, or its base is no multiple of 2 ^ order, or it is of memory or I/O and ends past 64
+-- a word that is no descriptor: its type is not 0, and its order is above 8, or its base is no multiple of 2 ^ order, or it is of memory or I/O and ends past 64,
+-- as it does with every order above 6
 abbrev pub NoDescriptor : ℕ → Type 0
 NoDescriptor word =
     (typeField word ≡ 0 → ⊥) and-then
-    ((6 < orderField word) ⊎
+    ((8 < orderField word) ⊎
     ((baseField word % 2 ^ orderField word ≡ 0 → ⊥) ⊎ ((typeField word ≡ 3 → ⊥) and-then (64 < baseField word + 2 ^ orderField word))))
 
 -- A word is read as malformed exactly where it is no descriptor
@@ -245,7 +246,7 @@ EveryCensus Holding =
     (tables : Tables) (place : ℕ) (list : List ℕ) → sound tables ≡ true →
     Holding place list (censusOf tables place list .reply) (shown tables .caps place .permissions) (length (descendants (shown tables .caps) place))
 
--- The census: BAD_PAR exactly for a place number of 1,536 or more; BAD_CAP exactly for a null place; SHORT with the needed count exactly for a live place and a shorter list;
+-- The census: BAD_PAR exactly for a place number of 3,072 or more; BAD_CAP exactly for a null place; SHORT with the needed count exactly for a live place and a shorter list;
 -- otherwise SUCCESS with the count of descendants
 pub record CensusRefusedExactly : Type 0 where
   pub census-bad-par : EveryCensus (λ place list reply permissions found. (reply ≡ BadPar) ↔ (places ≤ place))

@@ -15,26 +15,26 @@ use Rattle.reply.specs.declared.Fault.{Fault}
 use Rattle.reply.specs.declared.Fault.the-variants.{NoFault, AtRecord, AtPlace}
 use Rattle.interface.specs.Basics.{if_then_else_, word, put, listed}
 use Rattle.interface.specs.Places.{Cap, State, nothing}
-use Rattle.interface.specs.Boot.{boot, root}
+use Rattle.interface.specs.Boot.{boot, hypervisor, root}
 use Rattle.interface.specs.Damage.{rulesOfDamage, firstFault}
-use Rattle.interface.specs.Effects.{give, make, hold, cut, store, filled}
+use Rattle.interface.specs.Effects.{give, make, hold, cut, store, act, filled}
 use Rattle.interface.specs.Message.{translateWindow, descriptorAt, secondAt, delegateBit, translateItem, carried}
 use Rattle.interface.specs.History.{History, held, told, note, noteAll, heir}
 use Rattle.interface.specs.Examples.{Each, pages}
 
--- hypervisor page 8 (place 8), delegated with mask 7 to root page 8 (place 200), from there with 3 to domain 2's (392), and from there with 2 to domain 3's (584)
+-- hypervisor page 8 (place 8), delegated with mask 7 to root page 8 (place 392), from there with 3 to domain 2's (776), and from there with 2 to domain 3's (1160)
 abbrev pub lineHistory : History
 lineHistory =
-    noteAll (give 200 8 7 ∷ give 392 200 3 ∷ give 584 392 2 ∷ [])
+    noteAll (give 392 8 7 ∷ give 776 392 3 ∷ give 1160 776 2 ∷ [])
     (record { objects = boot .objects; total = 1; fillings = λ k. record { place = 8; resource = 8; permissions = 7; source = 0 } })
 
 -- then mask 2 is revoked below root page 8, and with self from it too
 abbrev pub lineCut : Bool → History
-lineCut self = note (cut 2 200 1 self) lineHistory
+lineCut self = note (cut 2 392 1 self) lineHistory
 
 -- and domain 2 delegates its page to domain 3 again
 abbrev pub lineAgain : History
-lineAgain = note (give 584 392 1) (lineCut false)
+lineAgain = note (give 1160 776 1) (lineCut false)
 
 -- the permissions of a history's fillings, oldest first
 abbrev pub permissionsTold : History → List ℕ
@@ -47,10 +47,10 @@ twoPages base =
     record {
       caps =
           λ place.
-          if eqb place (192 + base) then record { resource = 8; permissions = 7; parent = 9; depth = 1 } else
-          if eqb place (193 + base) then record { resource = 9; permissions = 7; parent = 10; depth = 1 } else
-          if eqb place 392 then record { resource = 8; permissions = 7; parent = 193 + base; depth = 2 } else
-          if eqb place 393 then record { resource = 9; permissions = 3; parent = 194 + base; depth = 2 } else
+          if eqb place (384 + base) then record { resource = 8; permissions = 7; parent = 9; depth = 1 } else
+          if eqb place (385 + base) then record { resource = 9; permissions = 7; parent = 10; depth = 1 } else
+          if eqb place 776 then record { resource = 8; permissions = 7; parent = 385 + base; depth = 2 } else
+          if eqb place 777 then record { resource = 9; permissions = 3; parent = 386 + base; depth = 2 } else
           boot .caps place;
       objects = boot .objects;
     }
@@ -80,14 +80,14 @@ placesChanged first second cap = placeChanged (placeChanged boot second cap) fir
 abbrev pub recordsChanged : State → ℕ → ℕ → State
 recordsChanged s first second = recordChanged (recordChanged s second (1 ∷ [])) first (1 ∷ [])
 
--- boot's state with hypervisor page 0 delegated to root page 0 (place 192), from there to root page 1, and so on for as many delegations as a number says
+-- boot's state with hypervisor page 0 delegated to root page 0 (place 384), from there to root page 1, and so on for as many delegations as a number says
 abbrev pub deepLine : ℕ → State
 deepLine delegations =
     record {
       caps =
           λ place.
-          if leb 192 place && ltb place (192 + delegations)
-          then record { resource = 0; permissions = 7; parent = if eqb place 192 then 1 else place; depth = place - 191 }
+          if leb 384 place && ltb place (384 + delegations)
+          then record { resource = 0; permissions = 7; parent = if eqb place 384 then 1 else place; depth = place - 383 }
           else boot .caps place;
       objects = boot .objects;
     }
@@ -107,10 +107,12 @@ damageCases =
     ∷ (faultOf (recordChanged boot 32 (5 ∷ 0 ∷ 0 ∷ 0 ∷ 0 ∷ [])) ≡ AtRecord 5 32)
     ∷  -- rule 6: the second PD has domain 3
     (faultOf (recordChanged boot 31 (1 ∷ 3 ∷ 0 ∷ 0 ∷ 0 ∷ [])) ≡ AtRecord 6 31)
-    ∷  -- rule 7: an EC of domain 0, which has no PD; of CPU 4; and with event base 64
+    ∷  -- rule 7: an EC of domain 0, which has no PD; of CPU 4; and with event base 256
     (faultOf (recordChanged boot 31 (2 ∷ 0 ∷ 0 ∷ 0 ∷ 0 ∷ [])) ≡ AtRecord 7 31)
     ∷ (faultOf (recordChanged boot 31 (2 ∷ 1 ∷ 4 ∷ 0 ∷ 0 ∷ [])) ≡ AtRecord 7 31)
-    ∷ (faultOf (recordChanged boot 31 (2 ∷ 1 ∷ 0 ∷ 64 ∷ 0 ∷ [])) ≡ AtRecord 7 31)
+    ∷ (faultOf (recordChanged boot 31 (2 ∷ 1 ∷ 0 ∷ 256 ∷ 0 ∷ [])) ≡ AtRecord 7 31)
+    ∷  -- and none with event base 255
+    (faultOf (recordChanged boot 31 (2 ∷ 1 ∷ 0 ∷ 255 ∷ 0 ∷ [])) ≡ NoFault)
     ∷  -- rule 8: an SC of priority 0 or 256, of quantum 0 or 1,048,576, and for object 28, which is a PD
     (faultOf (recordChanged boot 31 (3 ∷ 29 ∷ 0 ∷ 10 ∷ 0 ∷ [])) ≡ AtRecord 8 31)
     ∷ (faultOf (recordChanged boot 31 (3 ∷ 29 ∷ 256 ∷ 10 ∷ 0 ∷ [])) ≡ AtRecord 8 31)
@@ -120,15 +122,15 @@ damageCases =
     ∷  -- rule 9: a PT for object 28
     (faultOf (recordChanged boot 31 (4 ∷ 28 ∷ 0 ∷ 0 ∷ 0 ∷ [])) ≡ AtRecord 9 31)
     ∷  -- rule 11: memory outside domain 0 without a parent; with a parent that holds another page; and more than all permissions
-    (faultOf (placeChanged boot 200 (record { resource = 0; permissions = 7; parent = 0; depth = 0 })) ≡ AtPlace 11 200)
-    ∷ (faultOf (placeChanged boot 200 (record { resource = 0; permissions = 7; parent = 2; depth = 1 })) ≡ AtPlace 11 200)
-    ∷ (faultOf (placeChanged boot 200 (record { resource = 0; permissions = 8; parent = 1; depth = 1 })) ≡ AtPlace 11 200)
+    (faultOf (placeChanged boot 392 (record { resource = 0; permissions = 7; parent = 0; depth = 0 })) ≡ AtPlace 11 392)
+    ∷ (faultOf (placeChanged boot 392 (record { resource = 0; permissions = 7; parent = 2; depth = 1 })) ≡ AtPlace 11 392)
+    ∷ (faultOf (placeChanged boot 392 (record { resource = 0; permissions = 8; parent = 1; depth = 1 })) ≡ AtPlace 11 392)
     ∷  -- rule 11: the root's page 63 with page 62 as its parent; and no damage where the root has lost both its pages
-    (faultOf (placeChanged boot 255 (record { resource = 63; permissions = 1; parent = 63; depth = 1 })) ≡ AtPlace 11 255)
-    ∷ (faultOf (placesChanged 254 255 nothing) ≡ NoFault)
-    ∷  -- rule 12: a line of 32 delegations, which ends at root page 31; one of 31 is no damage
-    (faultOf (deepLine 32) ≡ AtPlace 12 223)
-    ∷ (faultOf (deepLine 31) ≡ NoFault)
+    (faultOf (placeChanged boot 447 (record { resource = 63; permissions = 1; parent = 63; depth = 1 })) ≡ AtPlace 11 447)
+    ∷ (faultOf (placesChanged 446 447 nothing) ≡ NoFault)
+    ∷  -- rule 12: a line of 64 delegations, which ends at root page 63; one of 63 is no damage
+    (faultOf (deepLine 64) ≡ AtPlace 12 447)
+    ∷ (faultOf (deepLine 63) ≡ NoFault)
     ∷ [])
 
 -- received second words: each reason why an item is null, and an item that is not
@@ -167,10 +169,10 @@ SmallCases =
     (permissionsTold (lineCut false) ≡ 7 ∷ 7 ∷ 1 ∷ 0 ∷ [])
     ∷ (permissionsTold (lineCut true) ≡ 7 ∷ 5 ∷ 1 ∷ 0 ∷ [])
     ∷  -- domain 3's page then holds nothing; and after another delegation its latest filling, the fifth, which came from root page 8's
-    (held (lineCut false) 584 ≡ 0)
-    ∷ (held lineAgain 584 ≡ 5)
-    ∷ (told lineAgain .caps 584 ≡ record { resource = 8; permissions = 1; parent = 393; depth = 3 })
-    ∷ (heir lineAgain 200 584 ≡ true)
+    (held (lineCut false) 1160 ≡ 0)
+    ∷ (held lineAgain 1160 ≡ 5)
+    ∷ (told lineAgain .caps 1160 ≡ record { resource = 8; permissions = 1; parent = 777; depth = 3 })
+    ∷ (heir lineAgain 392 1160 ≡ true)
     ∷  -- steps that delegate nothing fill no place by delegation
     (filled (make 31 (5 ∷ []) ∷ store 31 1 (9 ∷ []) ∷ hold 300 31 ∷ cut 2 8 1 true ∷ []) boot ≡ 0)
     ∷  -- the two pages came from root pages 10 and 11, and these from hypervisor pages 8 and 9: the common permissions are 3
@@ -180,6 +182,11 @@ SmallCases =
     (pagesShown 9 1 (pages 0 6) ≡ NullItem TranslationBroke)
     ∷ (pagesShown 10 1 (pages 8 1) ≡ NullItem TranslationBroke)
     ∷ (pagesShown 10 3 (pages 0 6) ≡ NullItem TranslationBroke)
+    ∷  -- a line of 62 delegations is delegated on, to domain 2's page 0 (place 768), and one of 63 is not
+    (act (give 768 445 7) (deepLine 62) .caps 768 ≡ record { resource = 0; permissions = 7; parent = 446; depth = 63 })
+    ∷ (act (give 768 446 7) (deepLine 63) .caps 768 ≡ nothing)
+    ∷  -- and the end of a line of 63 is translated to where it came from, hypervisor page 0
+    (translateItem (deepLine 63) root hypervisor (Both (pages 62 0) (pages 0 6)) .received ≡ Shows (record { space = 0; base = 0; order = 0; mask = 7 }))
     ∷  -- received second words
     Each reasonCases
     ∷  -- boot has no fault; of places of domain 0 that changed the lower one is named, and a changed record before them

@@ -6,6 +6,7 @@ ghost use mathlib.Core.List.{_++_};
 ghost use lib.Count.{ones};
 ghost use lib.ListN.{length, drop};
 ghost use Rattle.words.specs.Sizes.{places};
+ghost use Rattle.interface.specs.Places.{placeTableWords};
 ghost use Rattle.marks.specs.PlaceBits.{wordBits, markWords, bitAt, SetIf, RangeToo, NextMarked, markedPlaces};
 use layout::Place;
 use words::sizes;
@@ -15,11 +16,13 @@ pub const WORD_BITS: u32 = 32;
 
 pub const MARK_WORDS: usize = (sizes::PLACES / WORD_BITS) as usize;
 
-// Marks of no place.
-pub fn blank() -> [u32; MARK_WORDS]
+// Marks of no place, for a place table. They begin with a 0 that the compiler does not know, since it has no code of its own for so many known ones and calls `memset`.
+pub fn blank(table: &[u32]) -> [u32; MARK_WORDS]
+    requires { ⌜ length (now table) ≡ placeTableWords ⌝ }
     ensures { λ r. ⌜ (length r ≡ markWords) × ((number : ℕ) → bitAt r number ≡ false) ⌝ }
 {
-    [0u32; MARK_WORDS]
+    let zero = (table.len() - sizes::PLACE_TABLE_WORDS) as u32;
+    [zero; MARK_WORDS]
 }
 
 // Whether a place is marked.

@@ -25,7 +25,7 @@ use Rattle.record_rules.specs.RecordKeeping.{Kept}
 use Rattle.place_rules.specs.PlaceKeeping.{placeKeeps, blank}
 use Rattle.place_rules.proofs.PlaceTests.{link-before, link-past, past-hypervisor, fixed-past, parent-past, place-parts}
 use Rattle.place_rules.proofs.BlankLaws.{blank-null, null-blank}
-use Rattle.place_pass.specs.PassKeeping.{quickKeeps}
+use Rattle.place_pass.specs.PassKeeping.{quickKeeps, group}
 use Rattle.place_pass.proofs.GroupLaws.{domain-without-pd}
 use Rattle.place_pass.proofs.BootPlaceLaws.{hypervisor-below}
 
@@ -287,6 +287,14 @@ module _ (table : List ℕ) (first : ℕ) where
 
   pub nulls-done : (end at : ℕ) → end ≤ at → Nulls table first at → true ≡ blank table first (end - first)
   nulls-done end at late nulls = sym (null-blank table first (end - first) (λ p from before. nulls p from (omega arith)))
+
+-- places that begin with one that has a permission are not blank
+pub live-not-blank : (table : List ℕ) (first : ℕ) (cap : Cap) → cap ≡ capAt table first → (cap .permissions ≡ 0 → ⊥) → false ≡ blank table first group
+live-not-blank table first cap is some =
+    cases (blank table first group)
+    (λ (t : blank table first group ≡ true).
+    absurd (some (ap (λ (held : Cap). held .permissions) (is ∙ blank-null table first group first (omega arith) (omega arith) t))))
+    (λ (f : blank table first group ≡ false). sym f)
 
 -- blank places pass
 pub blank-keeps : (tables : Tables) (first count : ℕ) → stride ≤ first → allBelow first (quickKeeps (shown tables)) ≡ true →

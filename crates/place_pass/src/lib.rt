@@ -67,12 +67,23 @@ fn rest_is_blank(table: &[u32], first: u32) -> bool
     true
 }
 
+// Whether the places of a group are null, all words of them. A group that begins with a live place is told by that place alone.
+fn is_null_group(table: &[u32], first: u32) -> bool
+    requires { ⌜ (length (now table) ≡ placeTableWords) × (first + group ≤ places) ⌝ }
+    ensures { λ r. ⌜ r ≡ blank (now (table .entry)) first group ⌝ }
+{
+    if place_rules::cap_at(table, first).permissions != 0 {
+        return false;
+    }
+    place_rules::is_blank(table, first, GROUP)
+}
+
 // Whether the places up to the end of a group of a domain with a PD pass the shorter test, where those before it do. A group lies in one space of one domain.
 fn group_keeps(table: &[u32], objects: &[u32], first: u32) -> bool
     requires { ⌜ Passed (tables (now table) (now objects)) first × (first < places) ⌝ }
     ensures { λ r. ⌜ r ≡ allBelow (first + group) (quickKeeps (view (now (table .entry)) (now (objects .entry)))) ⌝ }
 {
-    if place_rules::is_blank(table, first, GROUP) {
+    if is_null_group(table, first) {
         return true;
     }
     let extent = place_rules::extent_of(place_rules::space_of(first));

@@ -1,5 +1,5 @@
 // What is proved of the interface's definitions: each function promises one statement of interface/specs and does nothing, so that its proof is the statement's.
-ghost use Rattle.interface.specs.Consequences.{StaysSound, DamagedExactly, RefusedStays, HypervisorStays, BlocksStay, NothingIsNothing, AddsNoPermission, RevokesExactly, NothingLost};
+ghost use Rattle.interface.specs.Consequences.{StaysSound, DamagedExactly, RefusedStays, HypervisorStays, BlocksStay, NothingIsNothing, AnswersFew, AddsNoPermission, RevokesExactly, NothingLost};
 ghost use Rattle.interface.specs.Refusals.{CallRefusedExactly, CreationsRefusedExactly, SmCtrlRefusedExactly, LookupRefusedExactly, RevokeRefusedExactly, CensusRefusedExactly, DispatchRefusedExactly, MalformedExactly};
 ghost use Rattle.interface.specs.Created.{CreatedExactly};
 ghost use Rattle.interface.specs.Deliveries.{DeliversItems, DeliversWords, DeliversRange};
@@ -60,6 +60,11 @@ pub fn blocks_stay()
 // A selector that holds nothing is reported as nothing, and any other by the largest range around it.
 pub fn nothing_is_nothing()
     ensures { λ r. ⌜ NothingIsNothing ⌝ }
+{}
+
+// LOOKUP answers no range of more than 64 selectors, among objects either.
+pub fn answers_few()
+    ensures { λ r. ⌜ AnswersFew ⌝ }
 {}
 
 // Delegation adds no permission: no call but REVOKE changes a live place, and what a call fills was delegated as it asks, or is what it created.

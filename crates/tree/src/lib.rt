@@ -24,7 +24,7 @@ pub fn cut(table: &mut [u32], mask: u32, first: Place, size: u32, self_too: bool
     requires { ⌜ Sized (now table) × Linked (capAt (now table)) × InSpace (first .0) size ⌝ }
     ensures { λ r. ⌜ now (table .exit) ≡ capTable (cutCaps mask (first .0) size «self_too» (capAt (now (table .entry)))) ⌝ }
 {
-    let mut marked = marks::blank();
+    let mut marked = marks::blank(table);
     descent::mark_below(table, first, size, &mut marked);
     marks::mark_range(&mut marked, first, size, self_too);
     strip_marked(table, &marked, mask);
@@ -86,7 +86,7 @@ pub fn census(place: u32, table: &[u32], list: &mut [u32]) -> Reply
     if !places::is_live(cap) {
         return Reply::BadCap;
     }
-    let mut marked = marks::blank();
+    let mut marked = marks::blank(table);
     descent::mark_below(table, at, 1, &mut marked);
     let count = marks::count_marked(&marked);
     if list.len() < (count as usize) {

@@ -5,6 +5,7 @@ use mathlib.Core.Bool.{Bool, true}
 use mathlib.Core.Logic.{_↔_}
 use lib.Count.{trailingZeros}
 use lib.Dec.{eqb}
+use Rattle.words.specs.Sizes.{greatestOrder, selectors}
 
 -- a base is aligned when it has at least as many trailing zero bits as the order says: when it is a multiple of 2 ^ order
 abbrev pub aligned : ℕ → ℕ → Bool
@@ -24,10 +25,12 @@ pub record AlignmentFact : Type 0 where
   pub aligned-zeros : (width order base : ℕ) → order ≤ width → (aligned order base ≡ true) ↔ (order ≤ trailingZeros width base)
   pub zero-aligned : (order : ℕ) → aligned order 0 ≡ true
 
--- The range fact: a range of a space that is aligned and begins in it lies in it, whatever its order and the space's
+-- The range fact: a range that is aligned, of an order up to the greatest, and begins below 2 ^ greatest lies below that, whatever the two orders; and so a range of a space lies in it
 pub record RangeFact : Type 0 where
   pub stays-inside : (greatest order base offset : ℕ) → order ≤ greatest → aligned order base ≡ true → base < 2 ^ greatest → offset < 2 ^ order →
       base + offset < 2 ^ greatest
+  pub stays-in-space : (space order base offset : ℕ) → order ≤ greatestOrder space → aligned order base ≡ true → base < selectors space → offset < 2 ^ order →
+      base + offset < selectors space
 
 -- The hotspot fact: the raised base begins a range of the smaller order, inside the side's own range, that holds the place of the hotspot; with equal orders it is the base itself
 pub record HotspotFact : Type 0 where

@@ -23,7 +23,7 @@ spaces = 3
 
 -- the order of the range that is the whole object space, and of the one that is the whole memory space or I/O space
 abbrev pub objectOrder : ℕ
-objectOrder = 6
+objectOrder = 8
 
 abbrev pub pageOrder : ℕ
 pageOrder = 6
@@ -78,7 +78,7 @@ recordWords = 5
 
 -- no depth exceeds this, and a place that has it is not delegated on
 abbrev pub greatestDepth : ℕ
-greatestDepth = 31
+greatestDepth = 63
 
 -- a message block is this many words
 abbrev pub blockWords : ℕ

@@ -13,7 +13,7 @@ pub const IO: u32 = 1;
 pub const OBJECT: u32 = 2;
 
 // The orders of whole spaces and the numbers of their selectors: of the object space, and of the memory and the I/O space.
-pub const OBJECT_ORDER: u32 = 6;
+pub const OBJECT_ORDER: u32 = 8;
 
 pub const OBJECT_SELECTORS: u32 = 1 << OBJECT_ORDER;
 
@@ -40,7 +40,7 @@ pub const RECORD_WORDS: usize = 5;
 
 pub const OBJECT_TABLE_WORDS: usize = RECORD_WORDS * RECORDS as usize;
 
-pub const GREATEST_DEPTH: u32 = 31;
+pub const GREATEST_DEPTH: u32 = 63;
 
 pub const BLOCK_WORDS: usize = 64;
 

@@ -193,7 +193,7 @@ fn by_live_places() -> Vec<Case> {
 }
 
 fn by_depth() -> Vec<Case> {
-    let depths = [2, 4, 8, 16, 24, DEPTH_LIMIT];
+    let depths = [2, 4, 8, 16, 32, DEPTH_LIMIT];
     of_origin(
         depths
             .map(|depth| (depth.into(), lent_out(PLACES, depth)))

@@ -100,8 +100,9 @@ pub fn with_portal() -> Lent {
     lent
 }
 
+/// With this seed a CALL of the root still finds null pages to fill.
 pub fn mixed() -> Lent {
-    after(Kind::Mixed, 1, 2_000)
+    after(Kind::Mixed, 6, 2_000)
 }
 
 pub fn deep() -> Lent {
@@ -113,8 +114,8 @@ pub fn full() -> Lent {
     after(Kind::Full, 4, 4_000)
 }
 
-/// The full tables with nearly all places live: every domain holds all pages and
-/// ports, lent down a line from domain 0.
+/// The full tables with all places live from domain 1 on: every domain holds all pages and
+/// ports, lent down a line from domain 0, and at its null object selectors a semaphore of domain 0.
 pub fn crowded() -> Lent {
     let mut lent = full();
     for space in [Space::Memory, Space::Io] {
@@ -124,6 +125,12 @@ pub fn crowded() -> Lent {
                 lent.places[child * PLACE_WIDTH..][..PLACE_WIDTH].fill(0);
                 lent.lend(child as u32 - DOMAIN_PLACES, child as u32);
             }
+        }
+    }
+    let semaphore = place(0, Space::Object, LENT_OUT);
+    for domain in 1..DOMAINS {
+        for selector in 0..Space::Object.selectors() {
+            lent.lend(semaphore, place(domain, Space::Object, selector));
         }
     }
     lent
@@ -157,12 +164,10 @@ pub fn lent_out(most: usize, depth: u32) -> Lent {
         (space, end)
     });
     let mut left = most;
-    for selector in 0..Space::Memory.selectors() {
-        for domain in 1..DOMAINS {
-            for (space, end) in ends {
-                if left > 0 && lent.lend(end, place(domain, space, selector)) {
-                    left -= 1;
-                }
+    for (domain, (space, end)) in (1..DOMAINS).flat_map(|domain| ends.map(|end| (domain, end))) {
+        for selector in 0..space.selectors() {
+            if left > 0 && lent.lend(end, place(domain, space, selector)) {
+                left -= 1;
             }
         }
     }

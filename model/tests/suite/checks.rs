@@ -1,5 +1,6 @@
 //! Each status of each call, and the order of the checks where two apply.
 
+use model::tables::Tables;
 use model::Status;
 
 use crate::world::*;
@@ -32,15 +33,15 @@ fn status_numbers() {
 #[test]
 fn boot_fills_the_tables() {
     let world = World::boot();
-    assert_eq!((world.places.len(), world.objects.len()), (6144, 320));
-    for number in 0..1536 {
+    assert_eq!((world.places.len(), world.objects.len()), (12_288, 320));
+    for number in 0..PLACES {
         assert_eq!(world.row(number), listed_row(number), "place {number}");
     }
     for number in 0..64 {
         let record = listed_record(number);
         assert_eq!(world.record(number), record, "record {number}");
     }
-    let live = (0..1536).filter(|&number| world.row(number)[1] != 0);
+    let live = (0..PLACES).filter(|&number| world.row(number)[1] != 0);
     assert_eq!(live.count(), 64 + 64 + 28 + 2 + 3);
 }
 
@@ -53,12 +54,13 @@ fn boot_overwrites_and_refuses_other_lengths() {
     assert_eq!((reply.status, reply.answer), (Status::Success, 0));
     assert!(world == World::listed());
     for (places, objects) in [
-        (6143, 320),
-        (6148, 320),
-        (6144, 319),
-        (6144, 325),
+        (12_287, 320),
+        (12_292, 320),
+        (6144, 320),
+        (12_288, 319),
+        (12_288, 325),
         (0, 0),
-        (320, 6144),
+        (320, 12_288),
     ] {
         let (mut place_words, mut object_words) = (vec![7; places], vec![9; objects]);
         let reply = model::boot(&mut place_words, &mut object_words);
@@ -96,8 +98,8 @@ fn creation_stores_objects() {
     world.does(CREATE_PD, ROOT_EC, &[40, 32, NO_DESCRIPTOR]);
     assert_eq!(world.record(31), [1, 2, 0, 0, 0]);
     assert_eq!(world.row(place(1, OBJECT, 40)), [31, 31, 0, 0]);
-    world.does(CREATE_EC, ROOT_EC, &[41, 40, 3, 64 + 9]);
-    assert_eq!(world.record(32), [2, 2, 3, 9, 0]);
+    world.does(CREATE_EC, ROOT_EC, &[41, 40, 3, 256 + 73]);
+    assert_eq!(world.record(32), [2, 2, 3, 73, 0]);
     assert_eq!(world.row(place(1, OBJECT, 41)), [32, 7, 0, 0]);
     world.does(CREATE_SC, ROOT_EC, &[42, 40, 41, 0xabcd_ef12]);
     assert_eq!(world.record(33), [3, 32, 0x12, 0xabcde, 0]);
@@ -115,11 +117,90 @@ fn creation_stores_objects() {
     world.does(CREATE_SM, ROOT_EC, &[44, 40, u32::MAX]);
     assert_eq!(world.record(35), [5, u32::MAX, 0, 0, 0]);
     assert_eq!(world.row(place(1, OBJECT, 44)), [35, 3, 0, 0]);
-    // Selector words wrap at 64.
-    world.does(CREATE_SM, ROOT_EC, &[64 + 45, 128 + 32, 5]);
-    assert_eq!(world.row(place(1, OBJECT, 45)), [36, 3, 0, 0]);
-    world.does(CREATE_SM, ROOT_EC, &[u32::MAX, 32, 5]);
-    assert_eq!(world.row(place(1, OBJECT, 63)), [37, 3, 0, 0]);
+}
+
+#[test]
+fn selector_words_wrap_at_256() {
+    let mut world = World::boot();
+    let mut expected = world.clone();
+    // The new selector's word with its selector, and a word for the PD's.
+    let words = [
+        (40, 40, 32),
+        (64 + 45, 109, 256 + 32),
+        (63, 63, 32 + (255 << 8)),
+        (64, 64, u32::MAX - 223),
+        (127, 127, 32),
+        (128, 128, 32),
+        (256 + 45, 45, 512 + 32),
+        (u32::MAX, 255, 32),
+        (256, 0, 32),
+        (4_294_967_080 + 1, 41, 32),
+    ];
+    for (number, (new, selector, pd)) in (31..).zip(words) {
+        world.does(CREATE_SM, ROOT_EC, &[new, pd, 5]);
+        expected.set_row(place(1, OBJECT, selector), [number, 3, 0, 0]);
+        expected.set_record(number, [5, 5, 0, 0, 0]);
+        assert!(world == expected, "new selector {new}, PD {pd}");
+    }
+    // The manual's three words for one selector, which is taken.
+    for new in [40, 296, 4_294_967_080] {
+        world.refuses(CREATE_SM, ROOT_EC, &[new, 32, 0], Status::BadCap);
+    }
+    // Words that would name the root's PD if they wrapped at 64 or at 128.
+    for pd in [96, 160, 224] {
+        world.refuses(CREATE_SM, ROOT_EC, &[50, pd, 0], Status::BadCap);
+    }
+}
+
+#[test]
+fn event_bases_wrap_at_256() {
+    for (word, event_base) in [
+        (0, 0),
+        (63, 63),
+        (64, 64),
+        (127, 127),
+        (128, 128),
+        (255, 255),
+        (256, 0),
+        (256 + 100, 100),
+        (1 << 31 | 200, 200),
+        (u32::MAX, 255),
+    ] {
+        let mut world = World::boot();
+        world.does(CREATE_EC, ROOT_EC, &[40, 32, 0, word]);
+        assert_eq!(world.record(31), [2, 1, 0, event_base, 0]);
+        assert!(model::is_sound(&world.places, &world.objects));
+    }
+}
+
+#[test]
+fn every_object_selector_is_named() {
+    // A portal to the root's second EC, then a semaphore, at each selector that is null and
+    // not just beside another portal.
+    for selector in (0..256).filter(|selector| !(32..42).contains(selector)) {
+        let mut world = World::partners();
+        world.does(CREATE_PT, ROOT_EC, &[selector, 32, 38, 0, 0, 0]);
+        assert_eq!(world.row(place(1, OBJECT, selector)), [37, 3, 0, 0]);
+        let (empty, block) = (message(0, &[]), windows(0, 0));
+        world.sends(ROOT_EC, selector, empty, block);
+        world.sends(ROOT_EC, 256 + selector, empty, block);
+        let one = range(OBJECT, selector, 0, 31);
+        assert_eq!(
+            world.does(LOOKUP, ROOT_EC, &[one]),
+            range(OBJECT, selector, 0, 3)
+        );
+        assert_eq!(world.gives(TO_CHILD, one, one, hot(0)), 1);
+        let heir = place(2, OBJECT, selector);
+        assert_eq!(world.row(heir), [37, 3, place(1, OBJECT, selector) + 1, 1]);
+        assert_eq!(world.heirs(place(1, OBJECT, selector)), [heir]);
+        world.does(REVOKE, ROOT_EC, &[one, 1]);
+        assert_eq!(world.row(heir), NULL);
+        world.refuses_call(ROOT_EC, selector, &empty, &block, Status::BadCap);
+        world.does(CREATE_SM, ROOT_EC, &[selector, 32, 0]);
+        world.does(SM_CTRL, ROOT_EC, &[selector, 0]);
+        world.does(SM_CTRL, ROOT_EC, &[512 + selector, 1]);
+        world.refuses(SM_CTRL, ROOT_EC, &[selector, 1], Status::ComTim);
+    }
 }
 
 /// Leaves the root's PD capability with these permissions alone.
@@ -192,7 +273,9 @@ fn creation_parameters_have_bounds() {
     }
     for initial in [
         MALFORMED,
-        range(OBJECT, 0, 7, 31),
+        range(OBJECT, 0, 9, 31),
+        range(OBJECT, 64, 8, 31),
+        range(OBJECT, 64, 7, 31),
         range(MEMORY, 0, 0, 7),
         range(IO, 0, 0, 1),
         range(MEMORY, 64, 0, 7),
@@ -206,9 +289,10 @@ fn creation_parameters_have_bounds() {
         .clone()
         .does(CREATE_SC, ROOT_EC, &[40, 32, 33, 0xffff_f0ff]);
     world.clone().does(CREATE_PD, ROOT_EC, &[40, 32, ODD_NULL]);
-    world
-        .clone()
-        .does(CREATE_PD, ROOT_EC, &[40, 32, range(OBJECT, 64, 6, 31)]);
+    for (base, order) in [(64, 6), (128, 7), (0, 8), (256, 8), (384, 7)] {
+        let initial = range(OBJECT, base, order, 31);
+        world.clone().does(CREATE_PD, ROOT_EC, &[40, 32, initial]);
+    }
 }
 
 /// The root's tables with all 64 records in use.
@@ -283,16 +367,47 @@ fn a_new_domain_gets_its_initial_range_first() {
     // A range that fills nothing still succeeds, by its mask or by null places.
     world.does(CREATE_PD, ROOT_EC, &[36, 32, range(OBJECT, 32, 0, 0)]);
     world.does(CREATE_PD, ROOT_EC, &[37, 32, range(OBJECT, 0, 4, 31)]);
-    for selector in 0..64 {
+    for selector in 0..256 {
         assert_eq!(world.row(place(3, OBJECT, selector)), NULL);
         assert_eq!(world.row(place(4, OBJECT, selector)), NULL);
     }
     // A wrapped base goes to the wrapped selectors.
-    world.does(CREATE_PD, ROOT_EC, &[38, 32, range(OBJECT, 64 + 33, 0, 31)]);
+    world.does(
+        CREATE_PD,
+        ROOT_EC,
+        &[38, 32, range(OBJECT, 256 + 33, 0, 31)],
+    );
     assert_eq!(
         world.row(place(5, OBJECT, 33)),
         [29, 7, place(1, OBJECT, 33) + 1, 1]
     );
+}
+
+#[test]
+fn a_new_domain_can_get_all_objects_of_another() {
+    let mut world = World::boot();
+    for selector in [0, 63, 64, 127, 128, 255] {
+        world.does(CREATE_SM, ROOT_EC, &[selector, 32, 0]);
+    }
+    for (order, base) in [(8, 0), (7, 0), (7, 128)] {
+        let mut after = world.clone();
+        after.does(
+            CREATE_PD,
+            ROOT_EC,
+            &[200, 32, range(OBJECT, base, order, 31)],
+        );
+        for selector in 0..256 {
+            let source = place(1, OBJECT, selector);
+            let [resource, permissions, ..] = world.row(source);
+            let is_given = permissions != 0 && selector >> order == base >> order;
+            let row = match is_given {
+                true => [resource, permissions, source + 1, 1],
+                false => NULL,
+            };
+            assert_eq!(after.row(place(2, OBJECT, selector)), row);
+        }
+        assert_eq!(after.row(place(1, OBJECT, 200)), [37, 31, 0, 0]);
+    }
 }
 
 #[test]
@@ -348,7 +463,7 @@ fn revoked(world: &World, domain: u32, range: (u32, u32, u32), mask: u32, own: u
     let start = place(domain, space, base);
     let holds = |place: u32| (start..start + (1 << order)).contains(&place);
     let mut after = world.clone();
-    for number in 0..1536 {
+    for number in 0..PLACES {
         let [resource, permissions, parent, depth] = world.row(number);
         if (parent > 0 && holds(parent - 1)) || (own == 1 && holds(number)) {
             let row = match permissions & !mask {
@@ -376,6 +491,8 @@ fn revoke_refuses_a_mask_without_a_permission_of_its_space() {
         (OBJECT, 40, 0),
         (OBJECT, 60, 1),
         (OBJECT, 0, 6),
+        (OBJECT, 128, 7),
+        (OBJECT, 0, 8),
     ];
     for (ec, domain) in [(ROOT_EC, 1), (CHILD_EC, 2)] {
         for (space, base, order) in ranges {
@@ -407,7 +524,8 @@ fn revoke_checks_a_mask_after_the_descriptor() {
             range(IO, 8, 31, mask),
             range(IO, 7, 1, mask),
             range(IO, 64, 6, mask),
-            range(OBJECT, 0, 7, mask),
+            range(OBJECT, 0, 9, mask),
+            range(OBJECT, 128, 8, mask),
             range(OBJECT, 40, 4, mask),
         ];
         for own in [0, 1] {
@@ -501,6 +619,8 @@ fn lookup_checks() {
         range(MEMORY, 64, 0, 7),
         range(IO, 0, 7, 1),
         range(OBJECT, 33, 1, 0),
+        range(OBJECT, 0, 9, 0),
+        range(OBJECT, 192, 7, 0),
     ] {
         world.refuses(LOOKUP, ROOT_EC, &[descriptor], Status::BadPar);
     }
@@ -509,6 +629,9 @@ fn lookup_checks() {
         ODD_NULL,
         range(MEMORY, 5, 0, 7),
         range(OBJECT, 63, 0, 31),
+        range(OBJECT, 96, 0, 31),
+        range(OBJECT, 255, 0, 31),
+        range(OBJECT, 0, 8, 31),
     ] {
         assert_eq!(world.does(LOOKUP, ROOT_EC, &[descriptor]), 0);
     }
@@ -516,7 +639,8 @@ fn lookup_checks() {
     for descriptor in [
         range(OBJECT, 32, 0, 0),
         range(OBJECT, 32, 5, 9),
-        range(OBJECT, 96, 5, 31),
+        range(OBJECT, 256 + 32, 5, 31),
+        range(OBJECT, 0xfff20, 0, 31),
     ] {
         assert_eq!(
             world.does(LOOKUP, ROOT_EC, &[descriptor]),
@@ -567,6 +691,81 @@ fn lookup_joins_equal_neighbours() {
     assert_eq!(look(&mut world, 11), range(MEMORY, 10, 1, 7));
 }
 
+/// What LOOKUP finds at a selector of the root, without the test of damage.
+fn searched(world: &mut World, space: u32, selector: u32) -> u32 {
+    let tables = Tables::sized(&mut world.places, &mut world.objects);
+    let tables = tables.expect("tables of the right lengths");
+    let arguments = [range(space, selector, 0, 0), 0, 0, 0, 0, 0];
+    let reply = model::serve(LOOKUP, ROOT_EC, arguments, tables, &[], &mut []);
+    assert_eq!(reply.status, Status::Success);
+    reply.answer
+}
+
+#[test]
+fn lookup_searches_to_the_order_of_the_whole_space() {
+    // The tables are not sound: all places of the root, and the places around them, have
+    // resources that rise by one from each to the next.
+    let mut world = World::boot();
+    for number in 0..PLACES {
+        world.set_row(number, [number, 1, 0, 0]);
+    }
+    for (space, selectors) in [(MEMORY, 64), (IO, 64), (OBJECT, 256)] {
+        let all = range(space, 0, ORDERS[space as usize], 1);
+        for selector in 0..selectors {
+            assert_eq!(searched(&mut world, space, selector), all);
+        }
+    }
+    // A hole halves the range around every other selector, as often as needed.
+    world.set_row(place(1, OBJECT, 200), NULL);
+    for (selector, base, order) in [
+        (0, 0, 7),
+        (127, 0, 7),
+        (128, 128, 6),
+        (191, 128, 6),
+        (192, 192, 3),
+        (201, 201, 0),
+        (202, 202, 1),
+        (204, 204, 2),
+        (255, 224, 5),
+    ] {
+        let found = range(OBJECT, base, order, 1);
+        assert_eq!(searched(&mut world, OBJECT, selector), found);
+    }
+    assert_eq!(searched(&mut world, OBJECT, 200), 0);
+    // Other permissions, and another resource.
+    for row in [[place(1, OBJECT, 200), 3, 0, 0], [0, 1, 0, 0]] {
+        world.set_row(place(1, OBJECT, 200), row);
+        assert_eq!(searched(&mut world, OBJECT, 0), range(OBJECT, 0, 7, 1));
+        let alone = range(OBJECT, 200, 0, row[1]);
+        assert_eq!(searched(&mut world, OBJECT, 200), alone);
+    }
+}
+
+#[test]
+fn lookup_joins_all_objects() {
+    let mut world = World::partners();
+    for selector in 64..91 {
+        world.does(CREATE_SM, ROOT_EC, &[selector, 32, 0]);
+    }
+    assert_eq!(world.record(63)[0], 5);
+    // Every object with its lowest permission, in order, from selector 128 on.
+    let window = range(OBJECT, 128, 6, 0);
+    let of_hypervisor = range(OBJECT, 0, 5, 1);
+    let filled = world.gives(TO_ROOT_2, of_hypervisor, window, hot(0) | FROM_HYPERVISOR);
+    assert_eq!(filled, 28);
+    for (selector, object) in (32..41).chain(64..91).zip(28..) {
+        assert_eq!(world.row(place(1, OBJECT, selector))[0], object);
+        let item = range(OBJECT, selector, 0, 1);
+        assert_eq!(world.gives(TO_ROOT_2, item, window, hot(object)), 1);
+    }
+    for selector in 128..192 {
+        let descriptor = range(OBJECT, selector, 0, 0);
+        let all = range(OBJECT, 128, 6, 1);
+        assert_eq!(world.does(LOOKUP, ROOT_EC, &[descriptor]), all);
+    }
+    assert_eq!(world.does(LOOKUP, ROOT_EC, &[range(OBJECT, 192, 6, 0)]), 0);
+}
+
 #[test]
 fn semaphores_go_up_and_down() {
     let mut world = World::boot();
@@ -582,7 +781,7 @@ fn semaphores_go_up_and_down() {
     }
     assert_eq!(world.does(SM_CTRL, ROOT_EC, &[40, 0]), 0);
     assert_eq!(world.record(31), [5, 2, 0, 0, 0]);
-    assert_eq!(world.does(SM_CTRL, ROOT_EC, &[64 + 40, 1]), 0);
+    assert_eq!(world.does(SM_CTRL, ROOT_EC, &[256 + 40, 1]), 0);
     world.does(SM_CTRL, ROOT_EC, &[40, 1]);
     assert_eq!(world.record(31), [5, 0, 0, 0, 0]);
     world.refuses(SM_CTRL, ROOT_EC, &[40, 1], Status::ComTim);
@@ -633,7 +832,7 @@ fn call_checks_in_order() {
         too_many[0] = word;
         world.clone().sends(ROOT_EC, TO_CHILD, too_many, block);
     }
-    world.sends(ROOT_EC, TO_CHILD + 64, good, block);
+    world.sends(ROOT_EC, TO_CHILD + 256, good, block);
     let mut without_call = world.clone();
     without_call.does(REVOKE, ROOT_EC, &[range(OBJECT, TO_CHILD, 0, 2), 1]);
     without_call.refuses_call(ROOT_EC, TO_CHILD, &good, &block, Status::BadCap);
@@ -679,9 +878,11 @@ fn census_checks() {
         let reply = world.census(place, &mut list);
         assert_eq!((reply.status, reply.answer, list), (status, 0, [9; 3]));
     };
-    refused(&world, 1536, Status::BadPar);
+    refused(&world, 3072, Status::BadPar);
     refused(&world, u32::MAX, Status::BadPar);
-    refused(&world, 1535, Status::BadCap);
+    for null in [3071, 1535, 1536, 3070, 383] {
+        refused(&world, null, Status::BadCap);
+    }
     refused(&world, place(2, OBJECT, 1), Status::BadCap);
     let reply = world.census(root_portal, &mut list);
     assert_eq!(
@@ -735,7 +936,50 @@ fn census_checks() {
     let reply = world.census(place(2, MEMORY, 2), &mut []);
     assert_eq!((reply.status, reply.answer), (Status::Success, 0));
     world.set_record(40, [9, 0, 0, 0, 0]);
-    refused(&world, 1536, Status::Damaged);
+    refused(&world, 3072, Status::Damaged);
+}
+
+#[test]
+fn census_and_revoke_reach_every_place_of_every_domain() {
+    let mut world = World::boot();
+    // Domains 2 to 7 with an EC each, and portals to these; a second EC of the root.
+    for domain in 2..8 {
+        world.does(CREATE_PD, ROOT_EC, &[40 + domain, 32, 0]);
+        world.does(CREATE_EC, ROOT_EC, &[50 + domain, 40 + domain, 0, 0]);
+        world.does(CREATE_PT, ROOT_EC, &[60 + domain, 32, 50 + domain, 0, 0, 0]);
+    }
+    world.does(CREATE_EC, ROOT_EC, &[51, 32, 0, 0]);
+    world.does(CREATE_PT, ROOT_EC, &[61, 32, 51, 0, 0, 0]);
+    world.does(CREATE_SM, ROOT_EC, &[100, 32, 0]);
+    let page = range(MEMORY, 4, 0, 31);
+    let port = range(IO, 4, 0, 31);
+    for one in [page, port] {
+        assert_eq!(world.gives(61, one, one, hot(0) | FROM_HYPERVISOR), 1);
+    }
+    let before = world.clone();
+    for (space, selector) in [(MEMORY, 4), (IO, 4), (OBJECT, 100)] {
+        let (origin, all) = (
+            place(1, space, selector),
+            range(space, 0, ORDERS[space as usize], 0),
+        );
+        let item = range(space, selector, 0, 31);
+        let mut heirs = Vec::new();
+        for domain in 1..8 {
+            let null = (0..SELECTORS[space as usize])
+                .filter(|&to| world.row(place(domain, space, to)) == NULL);
+            for to in null.collect::<Vec<u32>>() {
+                assert_eq!(world.gives(60 + domain, item, all, hot(to)), 1);
+                heirs.push(place(domain, space, to));
+            }
+        }
+        assert_eq!(world.heirs(origin), heirs);
+        assert_eq!(
+            heirs.last(),
+            Some(&(place(7, space, SELECTORS[space as usize] - 1)))
+        );
+        world.does(REVOKE, ROOT_EC, &[item, 0]);
+        assert!(world == before);
+    }
 }
 
 #[test]

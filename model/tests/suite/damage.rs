@@ -63,16 +63,17 @@ fn row_stays_sound(number: u32, row: [u32; 4]) {
 #[test]
 fn rule_1_lengths() {
     for (places, objects) in [
-        (6143, 320),
-        (6140, 320),
-        (6145, 320),
-        (6148, 320),
-        (6144, 319),
-        (6144, 315),
-        (6144, 321),
-        (6144, 325),
+        (12_287, 320),
+        (12_284, 320),
+        (12_289, 320),
+        (12_292, 320),
+        (6144, 320),
+        (12_288, 319),
+        (12_288, 315),
+        (12_288, 321),
+        (12_288, 325),
         (0, 320),
-        (6144, 0),
+        (12_288, 0),
     ] {
         let mut world = furnished();
         world.places.resize(places, 0);
@@ -98,6 +99,8 @@ fn rule_2_as_at_boot() {
     place_breaks(place(0, OBJECT, 27), [27, 1, 0, 0], 2);
     place_breaks(place(0, OBJECT, 28), [28, 31, 0, 0], 2);
     place_breaks(place(0, OBJECT, 63), [0, 0, 0, 1], 2);
+    place_breaks(place(0, OBJECT, 64), [0, 0, 1, 0], 2);
+    place_breaks(383, [28, 31, 0, 0], 2);
     // Records come before places.
     let mut world = furnished();
     world.set_row(0, NULL);
@@ -171,13 +174,16 @@ fn rule_7_execution_contexts() {
         [2, 7, 0, 0, 0],
         [2, u32::MAX, 0, 0, 0],
         [2, 2, 4, 0, 0],
-        [2, 2, 0, 64, 0],
+        [2, 2, 0, 256, 0],
+        [2, 2, 0, u32::MAX, 0],
     ] {
         record_breaks(32, record, 7);
     }
     let mut world = furnished();
-    world.set_record(32, [2, 1, 3, 63, 0]);
-    assert_eq!(report(&world), None);
+    for event_base in [63, 64, 128, 255] {
+        world.set_record(32, [2, 1, 3, event_base, 0]);
+        assert_eq!(report(&world), None);
+    }
     // The PD may come after the EC.
     world.set_record(39, [2, 3, 0, 0, 0]);
     breaks(&world, 7, Location::Record(39));
@@ -219,7 +225,15 @@ fn rule_9_portals() {
 
 #[test]
 fn rule_10_null_places() {
-    for number in [place(1, MEMORY, 0), place(2, IO, 3), place(7, OBJECT, 63)] {
+    for number in [
+        place(1, MEMORY, 0),
+        place(2, IO, 3),
+        place(4, MEMORY, 0),
+        place(5, IO, 63),
+        place(7, OBJECT, 63),
+        place(7, OBJECT, 64),
+        place(7, OBJECT, 255),
+    ] {
         place_breaks(number, [1, 0, 0, 0], 10);
         place_breaks(number, [0, 0, 1, 0], 10);
         place_breaks(number, [0, 0, 0, 1], 10);
@@ -242,6 +256,7 @@ fn rule_11_live_places() {
     // A domain without a PD.
     place_breaks(place(3, MEMORY, 9), [1, 3, first + 1, 2], 11);
     place_breaks(place(7, OBJECT, 63), [28, 31, 0, 0], 11);
+    place_breaks(place(7, OBJECT, 255), [28, 31, 0, 0], 11);
     // No such page, port or object; a free object.
     place_breaks(spare, [64, 3, first + 1, 2], 11);
     place_breaks(place(2, IO, 9), [64, 1, 0, 0], 11);
@@ -262,6 +277,8 @@ fn rule_11_live_places() {
     place_breaks(place(2, IO, 9), [1, 1, 0, 0], 11);
     // A parent out of range, null, of another space or resource, itself.
     place_breaks(spare, [1, 3, 1537, 2], 11);
+    place_breaks(spare, [1, 3, PLACES, 2], 11);
+    place_breaks(spare, [1, 3, PLACES + 1, 2], 11);
     place_breaks(spare, [1, 3, u32::MAX, 2], 11);
     place_breaks(spare, [1, 3, place(1, MEMORY, 0) + 1, 1], 11);
     place_breaks(place(2, IO, 1), [1, 1, first + 1, 2], 11);
@@ -270,7 +287,7 @@ fn rule_11_live_places() {
     place_breaks(spare, [1, 3, spare + 1, 2], 11);
     // More permissions than the parent, another depth.
     place_breaks(spare, [1, 7, first + 1, 2], 11);
-    for depth in [0, 1, 3, 31, 32, u32::MAX] {
+    for depth in [0, 1, 3, 31, 32, 63, 64, u32::MAX] {
         place_breaks(spare, [1, 3, first + 1, depth], 11);
     }
     // The largest depth is not one less than 0.
@@ -280,36 +297,65 @@ fn rule_11_live_places() {
     breaks(&world, 11, Location::Place(place(2, MEMORY, 1)));
 }
 
+/// By space: resource 4 of domain 0 with all permissions, at the root's selectors from one on
+/// in a line of so many places, each from the one before it.
+fn line(space: u32, places: u32) -> World {
+    let (first, permissions) = [(0, 7), (0, 1), (100, 3)][space as usize];
+    let mut world = World::listed();
+    let mut above = place(0, space, 4);
+    for depth in 1..=places {
+        let next = place(1, space, first + depth - 1);
+        world.set_row(next, [4, permissions, above + 1, depth]);
+        above = next;
+    }
+    world
+}
+
 #[test]
 fn rule_12_depth() {
-    let mut world = World::partners();
-    let wide = range(MEMORY, 0, 6, 0);
-    assert_eq!(
-        world.gives(
-            TO_ROOT_2,
-            range(MEMORY, 9, 0, 7),
-            wide,
-            hot(1) | FROM_HYPERVISOR
-        ),
-        1
-    );
-    for selector in 1..31 {
-        assert_eq!(
-            world.gives(
-                TO_ROOT_2,
-                range(MEMORY, selector, 0, 7),
-                wide,
-                hot(selector + 1)
-            ),
-            1
-        );
+    for space in [MEMORY, IO, OBJECT] {
+        for places in [31, 32, 62, 63] {
+            assert_eq!(report(&line(space, places)), None);
+        }
+        let world = line(space, 64);
+        let last = (0..PLACES).max_by_key(|&number| world.row(number)[3]);
+        let last = last.expect("the last place of the line");
+        breaks(&world, 12, Location::Place(last));
     }
-    assert_eq!(report(&world), None);
-    let last = place(1, MEMORY, 31);
-    world.set_row(last + 9, [9, 7, last + 1, 32]);
-    breaks(&world, 12, Location::Place(last + 9));
-    world.set_row(last + 5, [9, 7, last + 10, 33]);
-    breaks(&world, 12, Location::Place(last + 5));
+    // The lowest place is reported, not the least deep.
+    let mut world = line(OBJECT, 64);
+    let last = place(1, OBJECT, 163);
+    assert_eq!(world.row(last), [4, 3, last, 64]);
+    world.set_row(last - 150, [4, 3, last + 1, 65]);
+    breaks(&world, 12, Location::Place(last - 150));
+}
+
+#[test]
+fn the_rules_of_places_reach_the_last_one() {
+    let mut world = World::boot();
+    for selector in 40..46 {
+        world.does(CREATE_PD, ROOT_EC, &[selector, 32, 0]);
+    }
+    for number in DOMAIN_PLACES..PLACES {
+        let (space, _) = within(number);
+        let (origin, port) = (place(0, space, 4) + 1, place(0, IO, 4) + 1);
+        let other = if space == IO { number + 1 } else { port };
+        for (row, rule) in [
+            ([4, 1, origin, 1], None),
+            ([1, 0, 0, 0], Some(10)),
+            ([0, 0, 0, 64], Some(10)),
+            ([4, 8, origin, 1], Some(11)),
+            ([4, 1, origin, 2], Some(11)),
+            ([4, 1, other, 1], Some(11)),
+        ] {
+            let before = world.row(number);
+            world.set_row(number, row);
+            let at = Location::Place(number);
+            let expected = rule.map(|rule| Damage { rule, at });
+            assert_eq!(report(&world), expected, "place {number}: {row:?}");
+            world.set_row(number, before);
+        }
+    }
 }
 
 #[test]
@@ -319,10 +365,10 @@ fn the_manuals_examples_of_breaches() {
     breaks(&cut, 1, Location::Nowhere);
     let place_examples = [
         (5, NULL, 2),
-        (200, [5, 0, 0, 0], 10),
-        (200, [0, 7, 0, 0], 11),
-        (200, [0, 7, 2, 1], 11),
-        (255, [63, 1, 63, 1], 11),
+        (392, [5, 0, 0, 0], 10),
+        (392, [0, 7, 0, 0], 11),
+        (392, [0, 7, 2, 1], 11),
+        (447, [63, 1, 63, 1], 11),
     ];
     for (number, row, rule) in place_examples {
         let mut world = World::listed();
@@ -336,6 +382,7 @@ fn the_manuals_examples_of_breaches() {
         (32, [5, 0, 0, 0, 0], 5),
         (31, [1, 3, 0, 0, 0], 6),
         (31, [2, 0, 0, 0, 0], 7),
+        (31, [2, 1, 0, 256, 0], 7),
         (31, [3, 29, 0, 10, 0], 8),
         (31, [4, 28, 0, 0, 0], 9),
     ];
@@ -348,22 +395,28 @@ fn the_manuals_examples_of_breaches() {
     both.set_row(5, NULL);
     both.set_record(29, [2, 1, 1, 0, 0]);
     breaks(&both, 2, Location::Record(29));
+    let mut greatest = World::listed();
+    greatest.set_record(31, [2, 1, 0, 255, 0]);
+    assert_eq!(report(&greatest), None);
     let mut lost = World::listed();
-    lost.set_row(254, NULL);
-    lost.set_row(255, NULL);
+    lost.set_row(446, NULL);
+    lost.set_row(447, NULL);
     assert_eq!(report(&lost), None);
     let mut line = World::listed();
-    line.set_row(192, [0, 7, 1, 1]);
-    for step in 1..32 {
-        line.set_row(192 + step, [0, 7, 192 + step, step + 1]);
+    line.set_row(384, [0, 7, 1, 1]);
+    for step in 1..63 {
+        line.set_row(384 + step, [0, 7, 384 + step, step + 1]);
     }
-    breaks(&line, 12, Location::Place(223));
+    assert_eq!(line.row(446)[3], 63);
+    assert_eq!(report(&line), None);
+    line.set_row(447, [0, 7, 447, 64]);
+    breaks(&line, 12, Location::Place(447));
 }
 
 #[test]
 fn tables_in_which_the_root_lost_its_pages_are_sound() {
     assert_eq!(report(&World::listed()), None);
-    for lost in [&[254][..], &[255], &[254, 255]] {
+    for lost in [&[446][..], &[447], &[446, 447]] {
         let mut world = World::listed();
         for &number in lost {
             world.set_row(number, NULL);
@@ -379,27 +432,27 @@ fn tables_in_which_the_root_lost_its_pages_are_sound() {
 fn the_roots_pages_are_tested_like_other_places() {
     let examples = [
         // Other permissions, or the other page.
-        (254, [62, 7, 63, 1], None),
-        (254, [62, 2, 63, 1], None),
-        (254, [63, 7, 64, 1], None),
-        (255, [63, 7, 64, 1], None),
-        (255, [62, 3, 63, 1], None),
+        (446, [62, 7, 63, 1], None),
+        (446, [62, 2, 63, 1], None),
+        (446, [63, 7, 64, 1], None),
+        (447, [63, 7, 64, 1], None),
+        (447, [62, 3, 63, 1], None),
         // A null place with another word.
-        (254, [0, 0, 63, 1], Some(10)),
-        (255, [63, 0, 0, 0], Some(10)),
+        (446, [0, 0, 63, 1], Some(10)),
+        (447, [63, 0, 0, 0], Some(10)),
         // No parent, or another: a port, the place itself, the other page, a null place.
-        (254, [62, 3, 0, 0], Some(11)),
-        (255, [63, 1, 0, 1], Some(11)),
-        (255, [63, 1, 128, 1], Some(11)),
-        (255, [63, 1, 256, 1], Some(11)),
-        (254, [62, 1, 256, 2], Some(11)),
-        (254, [62, 3, 64, 1], Some(11)),
-        (255, [63, 1, 254, 1], Some(11)),
+        (446, [62, 3, 0, 0], Some(11)),
+        (447, [63, 1, 0, 1], Some(11)),
+        (447, [63, 1, 128, 1], Some(11)),
+        (447, [63, 1, 448, 1], Some(11)),
+        (446, [62, 1, 448, 2], Some(11)),
+        (446, [62, 3, 64, 1], Some(11)),
+        (447, [63, 1, 446, 1], Some(11)),
         // Another depth.
-        (254, [62, 3, 63, 0], Some(11)),
-        (255, [63, 1, 64, 2], Some(11)),
+        (446, [62, 3, 63, 0], Some(11)),
+        (447, [63, 1, 64, 2], Some(11)),
         // A permission that no page has.
-        (255, [63, 9, 64, 1], Some(11)),
+        (447, [63, 9, 64, 1], Some(11)),
     ];
     for (number, row, rule) in examples {
         let mut world = World::listed();
@@ -413,11 +466,11 @@ fn the_roots_pages_are_tested_like_other_places() {
 #[test]
 fn the_first_rule_is_reported_and_the_lowest_that_breaks_it() {
     let mut world = furnished();
-    world.set_row(1535, [1, 0, 0, 0]);
-    breaks(&world, 10, Location::Place(1535));
-    world.set_row(1500, [1, 0, 0, 0]);
-    world.set_row(300, [1, 1, 0, 9]);
-    breaks(&world, 10, Location::Place(1500));
+    world.set_row(3071, [1, 0, 0, 0]);
+    breaks(&world, 10, Location::Place(3071));
+    world.set_row(3000, [1, 0, 0, 0]);
+    world.set_row(500, [1, 1, 0, 9]);
+    breaks(&world, 10, Location::Place(3000));
     world.set_record(36, [4, 1, 0, 0, 0]);
     world.set_record(33, [4, 2, 0, 0, 0]);
     breaks(&world, 9, Location::Record(33));
@@ -484,7 +537,7 @@ fn spoil(world: &mut World, random: &mut Random) {
     let mut row = pick(random);
     // Places that are in use are of more interest.
     for _ in 0..20 {
-        if words[row + 1] == 0 || row < 192 * 4 && width == 4 {
+        if words[row + 1] == 0 || row < DOMAIN_PLACES as usize * 4 && width == 4 {
             row = pick(random);
         }
     }
@@ -493,7 +546,10 @@ fn spoil(world: &mut World, random: &mut Random) {
         0 => words[at] = words[at].wrapping_add(1),
         1 => words[at] = words[at].wrapping_sub(1),
         2 => words[at] ^= 1 << random.below(32),
-        3 => words[at] = random.below(70),
+        3 => {
+            let limit = if random.percent(50) { 70 } else { 300 };
+            words[at] = random.below(limit);
+        }
         4 => {
             let from = pick(random);
             words.copy_within(from..from + width, row);
@@ -509,18 +565,21 @@ fn spoil(world: &mut World, random: &mut Random) {
             } else {
                 deepest.unwrap_or(row)
             };
-            let child = above / 256 * 256 + random.below(64) as usize * 4;
+            let number = above as u32 / 4;
+            let (space, _) = within(number);
+            let selector = random.below(SELECTORS[space as usize]);
+            let child = place(number / DOMAIN_PLACES, space, selector) as usize * 4;
             let [resource, permissions, depth] = [0, 1, 3].map(|word| words[above + word]);
             words[child..child + 4].copy_from_slice(&[
                 resource,
                 permissions,
-                above as u32 / 4 + 1,
+                number + 1,
                 depth.wrapping_add(1),
             ]);
         }
         _ => {
             // A depth and its parent's row together, so that depth alone may be wrong.
-            let rise = random.below(40);
+            let rise = random.below(80);
             words[row + 3] = words[row + 3].wrapping_add(rise);
             if width == 4 {
                 let parent = words[row + 2].wrapping_sub(1) as usize * 4;

@@ -2,7 +2,7 @@
 
 use model::descriptor::{Descriptor, Malformed};
 use model::journal::{self, Record};
-use model::tables::Space;
+use model::tables::{Domain, Place, Selector, Space};
 use model::{Hypercall, Status};
 
 use crate::world::*;
@@ -42,6 +42,77 @@ fn a_large_range_goes_into_a_small_window() {
     assert_eq!(block[63], range(MEMORY, 4, 1, 31));
 }
 
+#[test]
+fn numbers_of_places() {
+    let domains = [
+        [0..=63, 64..=127, 128..=383],
+        [384..=447, 448..=511, 512..=767],
+        [768..=831, 832..=895, 896..=1151],
+        [1152..=1215, 1216..=1279, 1280..=1535],
+        [1536..=1599, 1600..=1663, 1664..=1919],
+        [1920..=1983, 1984..=2047, 2048..=2303],
+        [2304..=2367, 2368..=2431, 2432..=2687],
+        [2688..=2751, 2752..=2815, 2816..=3071],
+    ];
+    let mut next = 0;
+    for (domain, spaces) in (0..).zip(domains) {
+        for (space, places) in Space::ALL.into_iter().zip(spaces) {
+            for (selector, number) in (0..).zip(places) {
+                let place = Place::from_number(number).expect("a place of the tables");
+                assert_eq!((place.domain().number(), place.space()), (domain, space));
+                assert_eq!(place.selector().number(), selector);
+                let domain = Domain::new(domain).expect("a domain of the tables");
+                let selector = Selector::wrapped(selector, space);
+                assert_eq!(Place::new(domain, space, selector), place);
+                assert_eq!(number, next);
+                next += 1;
+            }
+            assert_eq!(space.selectors(), SELECTORS[space as usize]);
+            assert_eq!(space.order_limit(), ORDERS[space as usize]);
+        }
+    }
+    assert_eq!((next, Place::from_number(next)), (PLACES, None));
+    assert_eq!((place(1, OBJECT, 32), place(7, OBJECT, 255)), (544, 3071));
+}
+
+#[test]
+fn words_read_as_descriptors() {
+    let null = Ok(None);
+    let malformed = Err(Malformed);
+    let good =
+        |space: Space, base: u32, order: u32, mask: u32| Ok(Some((space, base, order, mask)));
+    let examples = [
+        (0, null),
+        (4_294_967_292, null),
+        (163_843, good(Space::Object, 40, 0, 0)),
+        (163_855, good(Space::Object, 40, 0, 3)),
+        (131_199, good(Space::Object, 32, 0, 31)),
+        (33_181, good(Space::Memory, 8, 3, 7)),
+        (33_153, good(Space::Memory, 8, 3, 0)),
+        (16_769, malformed),
+        (769, good(Space::Memory, 0, 6, 0)),
+        (897, malformed),
+        (899, good(Space::Object, 0, 7, 0)),
+        (1027, good(Space::Object, 0, 8, 0)),
+        (1155, malformed),
+        (262_147, good(Space::Object, 64, 0, 0)),
+        (1_048_579, good(Space::Object, 0, 0, 0)),
+        (262_145, malformed),
+        (258_050, good(Space::Io, 63, 0, 0)),
+        (131_843, malformed),
+        (263_171, malformed),
+        (3_146_755, good(Space::Object, 0, 8, 0)),
+        (4_294_963_203, good(Space::Object, 255, 0, 0)),
+    ];
+    for (word, expected) in examples {
+        let range = Descriptor::from_word(word).range();
+        let read = range.map(|range| {
+            range.map(|range| (range.space, range.base.number(), range.order, range.mask))
+        });
+        assert_eq!(read, expected, "word {word}");
+    }
+}
+
 fn is_malformed(space: Space, base: u32, order: u32) -> bool {
     Descriptor::new(space, base, order, 31).range() == Err(Malformed)
 }
@@ -58,17 +129,24 @@ fn alignment_of_bases() {
 #[test]
 fn bounds_of_orders() {
     for space in Space::ALL {
-        assert!(!is_malformed(space, 0, 6));
-        assert!(is_malformed(space, 0, 7));
-        assert!(is_malformed(space, 0, 31));
+        let whole = ORDERS[space as usize];
+        for order in 0..32 {
+            assert_eq!(is_malformed(space, 0, order), order > whole);
+            // The first base past the space: it wraps among objects alone.
+            let past = space != Space::Object || order > whole;
+            assert_eq!(is_malformed(space, 1 << whole, order), past);
+        }
     }
 }
 
 #[test]
 fn object_bases_wrap_and_others_do_not() {
-    let wrapped = Descriptor::new(Space::Object, 64, 0, 31).range();
+    let wrapped = Descriptor::new(Space::Object, 256, 0, 31).range();
     assert_eq!(wrapped, Descriptor::new(Space::Object, 0, 0, 31).range());
-    assert!(matches!(wrapped, Ok(Some(range)) if range.base.number() == 0));
+    for base in [0, 63, 64, 127, 128, 255, 256, 319, 320, 0xfff00, 0xfffff] {
+        let range = Descriptor::new(Space::Object, base, 0, 31).range();
+        assert!(matches!(range, Ok(Some(range)) if range.base.number() == base % 256));
+    }
     assert!(is_malformed(Space::Memory, 64, 0));
     assert!(is_malformed(Space::Io, 64, 0));
     // An aligned base cannot make a range cross the end; the first one past it can.
@@ -206,16 +284,18 @@ fn masks_of_revocations() {
 #[test]
 fn lookups_after_boot() {
     let mut world = World::boot();
-    // Selectors 32 and 35, then the pages 63, 62 and 61.
+    // Selectors 32 and 35, the pages 63, 62 and 61, then the whole object space.
     for (descriptor, answer) in [
         (131_075, 131_199),
         (143_363, 0),
         (258_049, 258_053),
         (253_953, 253_965),
         (249_857, 0),
+        (1027, 0),
     ] {
         assert_eq!(world.does(LOOKUP, ROOT_EC, &[descriptor]), answer);
     }
+    world.refuses(LOOKUP, ROOT_EC, &[1155], Status::BadPar);
 }
 
 #[test]
@@ -251,7 +331,7 @@ fn a_message_a_translation_and_a_revocation() {
     let mut world = World::boot();
     world.does(CREATE_SM, ROOT_EC, &[40, 32, 0]);
     world.does(CREATE_PD, ROOT_EC, &[41, 32, 163_855]);
-    assert_eq!(world.row(552), [31, 3, 361, 1]);
+    assert_eq!(world.row(936), [31, 3, 553, 1]);
     world.does(CREATE_EC, ROOT_EC, &[42, 41, 0, 0]);
     world.does(CREATE_EC, ROOT_EC, &[43, 32, 0, 0]);
     world.does(CREATE_PT, ROOT_EC, &[44, 32, 42, 0, 0, 0]);
@@ -265,7 +345,7 @@ fn a_message_a_translation_and_a_revocation() {
     let after = [&words[..], &[(2, 771), (62, 1), (63, 20_491)]].concat();
     let received = world.sends(ROOT_EC, 44, block(&source), block(&[(2, 771)]));
     assert_eq!(received, (1, block(&after)));
-    assert_eq!(world.row(517), [36, 2, 366, 1]);
+    assert_eq!(world.row(901), [36, 2, 558, 1]);
     assert_eq!(model::untyped(&received.1), [1000, 2000]);
     // Through it domain 2 shows its semaphore, in a window with the root's and in one without.
     let before = world.clone();
@@ -276,10 +356,10 @@ fn a_message_a_translation_and_a_revocation() {
         assert_eq!(received, (0, block(&after)));
         assert!(world == before);
     }
-    assert_eq!(world.heirs(360), [552]);
+    assert_eq!(world.heirs(552), [936]);
     world.does(REVOKE, ROOT_EC, &[163_967, 0]);
-    assert_eq!(world.row(552), NULL);
-    assert_eq!(world.row(360), [31, 3, 0, 0]);
+    assert_eq!(world.row(936), NULL);
+    assert_eq!(world.row(552), [31, 3, 0, 0]);
 }
 
 /// The root with a second execution context, and a portal to it at selector 41.
@@ -308,7 +388,7 @@ fn several_items_in_one_message() {
     let received = world.sends(ROOT_EC, 41, block(&source), block(&target));
     assert_eq!(received, (1, block(&after)));
     let mut expected = two_contexts();
-    expected.set_row(200, [0, 7, 1, 1]);
+    expected.set_row(392, [0, 7, 1, 1]);
     assert!(world == expected);
 }
 
@@ -356,7 +436,7 @@ fn short_census(world: &World, place: u32) -> (u32, u32, [u32; 1]) {
 fn the_pages_of_the_root() {
     let mut world = World::boot();
     let mut expected = World::listed();
-    for (place, answer, heir) in [(63, 1, 255), (62, 1, 254), (61, 0, 9999)] {
+    for (place, answer, heir) in [(63, 1, 447), (62, 1, 446), (61, 0, 9999)] {
         assert_eq!(short_census(&world, place), (0, answer, [heir]));
         assert!(world == expected);
     }
@@ -368,11 +448,160 @@ fn the_pages_of_the_root() {
     assert_eq!(world.call(REVOKE, ROOT_EC, &[258_173, 0]), (0, 0));
     assert!(world == expected);
     assert_eq!(world.call(REVOKE, ROOT_EC, &[258_173, 1]), (0, 0));
-    expected.set_row(255, NULL);
+    expected.set_row(447, NULL);
     assert_eq!(world.row(63), [63, 7, 0, 0]);
     assert!(world == expected);
     assert_eq!(short_census(&world, 63), (0, 0, [9999]));
     assert!(world == expected);
+}
+
+#[test]
+fn object_selectors_above_63() {
+    let mut world = two_contexts();
+    let mut expected = world.clone();
+    let source = block(&[(0, 65_536), (62, 2049), (63, 519)]);
+    let after = [(0, 65_536), (2, 786_947), (62, 1), (63, 786_951)];
+    let received = world.sends(ROOT_EC, 41, source, block(&[(2, 786_947)]));
+    assert_eq!(received, (16, block(&after)));
+    for object in 0..16 {
+        expected.set_row(704 + object, [object, 1, 129 + object, 1]);
+    }
+    assert!(world == expected);
+    let lookups = [
+        (819_203, (0, 786_951)),
+        (1_867_779, (0, 786_951)),
+        (1027, (0, 0)),
+        (1155, (5, 0)),
+    ];
+    for (descriptor, reply) in lookups {
+        assert_eq!(world.call(LOOKUP, ROOT_EC, &[descriptor]), reply);
+    }
+    assert_eq!(short_census(&world, 129), (0, 1, [705]));
+    assert!(world == expected);
+    assert_eq!(world.call(REVOKE, ROOT_EC, &[1151, 1]), (0, 0));
+    for live in [544, 545, 546, 552, 553].into_iter().chain(704..720) {
+        assert_ne!(expected.row(live), NULL);
+        expected.set_row(live, NULL);
+    }
+    assert!(world == expected);
+    assert_eq!(world.call(LOOKUP, ROOT_EC, &[819_203]), (0, 0));
+}
+
+#[test]
+fn a_chain_of_63_delegations() {
+    let mut world = two_contexts();
+    assert_eq!(world.call(CREATE_SM, ROOT_EC, &[64, 32, 0]), (0, 0));
+    assert_eq!(world.row(576), [33, 3, 0, 0]);
+    let mut expected = world.clone();
+    for (first, items, filled) in [(64, 30, 30), (94, 30, 30), (124, 4, 3)] {
+        let item = |selector| (15 + 4096 * selector, 1 + 4096 * (selector + 1));
+        let items: Vec<(u32, u32)> = (first..first + items).map(item).collect();
+        let target = block(&[(2, 1027)]);
+        let (answer, block) = world.sends(ROOT_EC, 41, message(0, &items), target);
+        assert_eq!(answer, filled);
+        for (index, selector) in (0..items.len()).zip(first..) {
+            let received = (block[63 - 2 * index], block[62 - 2 * index]);
+            if selector == 127 {
+                assert_eq!(received, (0, 9));
+                continue;
+            }
+            assert_eq!(received, (15 + 4096 * (selector + 1), 1));
+            let step = selector - 63;
+            expected.set_row(576 + step, [33, 3, 576 + step, step]);
+        }
+        assert!(world == expected);
+    }
+    assert_eq!(world.row(639), [33, 3, 639, 63]);
+    assert_eq!(world.row(640), NULL);
+    let source = block(&[(0, 65_536), (63, 520_207)]);
+    let after = [(0, 65_536), (1, 1027), (63, 516_111)];
+    let received = world.sends(ROOT_EC, 41, source, block(&[(1, 1027)]));
+    assert_eq!(received, (0, block(&after)));
+    assert!(world == expected);
+    assert_eq!(world.heirs(576), (577..640).collect::<Vec<u32>>());
+    assert_eq!(world.call(REVOKE, ROOT_EC, &[262_271, 0]), (0, 0));
+    for place in 577..640 {
+        expected.set_row(place, NULL);
+    }
+    assert!(world == expected);
+}
+
+#[test]
+fn pages_to_the_root() {
+    let mut world = two_contexts();
+    assert_eq!(world.record(31), [2, 1, 0, 0, 0]);
+    assert_eq!(world.record(32), [4, 31, 0, 0, 0]);
+    let mut expected = world.clone();
+    let source = block(&[(0, 65_536), (63, 413), (62, 2049)]);
+    let after = [(0, 65_536), (2, 33_153), (63, 33_181), (62, 1)];
+    let received = world.sends(ROOT_EC, 41, source, block(&[(2, 33_153)]));
+    assert_eq!(received, (8, block(&after)));
+    assert_eq!(world.call(LOOKUP, ROOT_EC, &[40_961]), (0, 33_181));
+    for page in 0..8 {
+        expected.set_row(392 + page, [page, 7, page + 1, 1]);
+    }
+    assert!(world == expected);
+    assert_eq!(short_census(&world, 0), (0, 1, [392]));
+}
+
+#[test]
+fn three_pages_in_a_line_revoked() {
+    let mut world = World::boot();
+    world.does(CREATE_PD, ROOT_EC, &[40, 32, 0]);
+    world.does(CREATE_PD, ROOT_EC, &[41, 32, 0]);
+    world.set_row(392, [8, 7, 9, 1]);
+    world.set_row(776, [8, 3, 393, 2]);
+    world.set_row(1160, [8, 2, 777, 3]);
+    for (own, left) in [(0, 7), (1, 5)] {
+        let (mut after, mut expected) = (world.clone(), world.clone());
+        assert_eq!(after.call(REVOKE, ROOT_EC, &[32_777, own]), (0, 0));
+        expected.set_row(392, [8, left, 9, 1]);
+        expected.set_row(776, [8, 1, 393, 2]);
+        expected.set_row(1160, NULL);
+        assert!(after == expected);
+    }
+}
+
+#[test]
+fn a_range_revoked_with_a_place_below_another() {
+    let mut world = World::boot();
+    world.does(CREATE_SM, ROOT_EC, &[40, 32, 0]);
+    world.set_row(553, [31, 3, 553, 1]);
+    for own in [0, 1] {
+        let (mut after, mut expected) = (world.clone(), world.clone());
+        assert_eq!(after.call(REVOKE, ROOT_EC, &[164_095, own]), (0, 0));
+        expected.set_row(553, NULL);
+        if own == 1 {
+            expected.set_row(552, NULL);
+        }
+        assert!(after == expected);
+    }
+}
+
+#[test]
+fn a_place_filled_twice() {
+    let mut world = World::boot();
+    world.does(CREATE_SM, ROOT_EC, &[40, 32, 0]);
+    world.does(CREATE_SM, ROOT_EC, &[50, 32, 0]);
+    assert_eq!(world.row(552), [31, 3, 0, 0]);
+    assert_eq!(world.row(562), [32, 3, 0, 0]);
+    world.does(CREATE_PD, ROOT_EC, &[41, 32, 0]);
+    world.does(CREATE_EC, ROOT_EC, &[42, 41, 0, 0]);
+    world.does(CREATE_PT, ROOT_EC, &[43, 32, 42, 0, 0, 0]);
+    let give = |world: &mut World, item: u32| {
+        let shown = world.shows(ROOT_EC, 43, (item, 40_961), windows(0, 771));
+        assert_eq!(shown, (40_975, 1));
+    };
+    give(&mut world, 163_855);
+    assert_eq!(world.row(906), [31, 3, 553, 1]);
+    assert_eq!(short_census(&world, 552), (0, 1, [906]));
+    world.does(REVOKE, ROOT_EC, &[163_967, 0]);
+    assert_eq!(world.row(906), NULL);
+    assert_eq!(short_census(&world, 552), (0, 0, [9999]));
+    give(&mut world, 204_815);
+    assert_eq!(world.row(906), [32, 3, 563, 1]);
+    assert_eq!(short_census(&world, 552), (0, 0, [9999]));
+    assert_eq!(short_census(&world, 562), (0, 1, [906]));
 }
 
 #[test]

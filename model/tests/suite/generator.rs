@@ -10,7 +10,7 @@ use model::tables::Space;
 use model::{Hypercall, Status};
 
 use crate::journals::Features;
-use crate::world::{DELEGATE, TRANSLATE};
+use crate::world::{DELEGATE, DEPTH_LIMIT, DOMAIN_PLACES, TRANSLATE};
 
 #[test]
 fn the_same_arguments_give_the_same_bytes() {
@@ -148,8 +148,8 @@ fn reach(kind: Kind, seeds: u64, count: usize) -> Reached {
         for (row, place) in rows {
             reached.depth = reached.depth.max(row[3]);
             if let Some(parent) = row[2].checked_sub(1) {
-                reached.from_hypervisor += u32::from(parent < 192);
-                reached.within_domain += u32::from(parent / 192 == place / 192);
+                reached.from_hypervisor += u32::from(parent < DOMAIN_PLACES);
+                reached.within_domain += u32::from(parent / DOMAIN_PLACES == place / DOMAIN_PLACES);
             }
         }
         let records = || replay.machine.objects.chunks(5);
@@ -200,8 +200,14 @@ fn mixed_journals_reach_every_status_of_every_call() {
 #[test]
 fn deep_journals_reach_the_depth_limit() {
     let reached = reach(Kind::Deep, 12, 300);
-    assert_eq!(reached.depth, 31);
+    assert_eq!(reached.depth, DEPTH_LIMIT);
     assert!(reached.received.reaches(TRANSLATE, 100, 5, 0));
+    let mut held = Features::default();
+    for seed in 0..12 {
+        held.journal(&journal(Kind::Deep, seed, 300));
+    }
+    let chains = held.chains();
+    assert!(chains.iter().all(|&count| count >= 20), "{chains:?}");
 }
 
 #[test]
@@ -250,6 +256,20 @@ fn null_journals_reach_every_reason_and_every_pair() {
     let reached = reach(Kind::Null, 20, 300);
     for (feature, count) in reached.received.counts() {
         assert!(count >= 50, "{feature}: {count} times");
+    }
+}
+
+#[test]
+fn mixed_journals_make_every_use_of_the_object_space() {
+    let mut held = Features::default();
+    for seed in 0..60 {
+        held.journal(&journal(Kind::Mixed, seed, 300));
+    }
+    for (name, count) in held.object_uses.counts() {
+        // A word past the space names what is meant, so such calls mostly succeed.
+        let is_word = name == "a selector word above 255 for one above 63";
+        let least = if is_word { 80 } else { 5 };
+        assert!(count >= least, "{name}: {count} times");
     }
 }
 

@@ -7,7 +7,13 @@ use model::journal::{Record, Replay, Step};
 use model::random::Random;
 use model::{Hypercall, Status};
 
-use crate::world::{listed_row, place, range, World, ROOT_PAGES};
+use crate::world::{
+    listed_row, place, range, within, World, DEPTH_LIMIT, DOMAIN_PLACES, OBJECT, ORDERS, PLACES,
+    ROOT_PAGES, SELECTORS,
+};
+
+/// Where object selectors and event bases wrap.
+const WRAP: u32 = SELECTORS[OBJECT as usize];
 
 /// A capability as it was once put at a place.
 struct Filling {
@@ -42,12 +48,14 @@ fn read(word: u32) -> Named {
     if kind == 0 {
         return Named::Null;
     }
-    if order > 6 || base % (1 << order) != 0 || (kind != 3 && base + (1 << order) > 64) {
+    let space = kind - 1;
+    let (size, whole) = (SELECTORS[space as usize], ORDERS[space as usize]);
+    if order > whole || base % (1 << order) != 0 || (kind != 3 && base + (1 << order) > size) {
         return Named::Malformed;
     }
     Named::Range {
-        space: kind - 1,
-        base: base % 64,
+        space,
+        base: base % size,
         order,
         mask,
     }
@@ -79,7 +87,7 @@ impl History {
         objects.extend([[1, 1, 0, 0, 0], [2, 1, 0, 0, 0], [3, 29, 1, 10_000, 0]]);
         let mut history = History {
             fillings: Vec::new(),
-            latest: vec![None; 1536],
+            latest: vec![None; PLACES as usize],
             objects,
         };
         for (space, permissions) in [(0, 7), (1, 1)] {
@@ -137,7 +145,7 @@ impl History {
 
     /// The object that a selector names, if it is of this kind and held with the permission.
     fn named(&self, domain: u32, selector: u32, kind: u32, permission: u32) -> Option<u32> {
-        let filling = &self.fillings[self.held(place(domain, 2, selector % 64))?];
+        let filling = &self.fillings[self.held(place(domain, 2, selector % WRAP))?];
         let fits = filling.permissions & permission == permission
             && self.objects[filling.resource as usize][0] == kind;
         fits.then_some(filling.resource)
@@ -153,7 +161,7 @@ impl History {
             permissions,
             ..
         } = self.fillings[source];
-        if self.depth(source) > 30 || self.held(to).is_some() || permissions & mask == 0 {
+        if self.depth(source) >= DEPTH_LIMIT || self.held(to).is_some() || permissions & mask == 0 {
             return false;
         }
         self.fill(to, resource, permissions & mask, Some(source));
@@ -185,7 +193,7 @@ impl History {
     }
 
     fn create(&mut self, kind: u32, domain: u32, [new, pd, a, b, c, d]: [u32; 6]) -> Outcome {
-        let new = place(domain, 2, new % 64);
+        let new = place(domain, 2, new % WRAP);
         if self.held(new).is_some() {
             return Err(Status::BadCap);
         }
@@ -197,7 +205,7 @@ impl History {
         let (words, greatest) = match kind {
             1 => ([pds + 1, 0, 0, 0], 31),
             2 if a > 3 => return Err(Status::BadCpu),
-            2 => ([self.objects[pd as usize][1], a, b % 64, 0], 7),
+            2 => ([self.objects[pd as usize][1], a, b % WRAP, 0], 7),
             3 => ([bind(2)?, b % 256, b / 4096, 0], 1),
             4 => ([bind(4)?, b, c, d], 3),
             _ => ([a, 0, 0, 0], 3),
@@ -275,7 +283,7 @@ impl History {
             return Ok(0);
         };
         let permissions = self.fillings[held].permissions;
-        for order in (0..7).rev() {
+        for order in (0..=ORDERS[space as usize]).rev() {
             let start = base - base % (1 << order);
             let run: Option<Vec<(u32, u32)>> = (start..start + (1 << order))
                 .map(|selector| {
@@ -415,8 +423,8 @@ impl History {
             let origin = self
                 .origins(filling)
                 .into_iter()
-                .find(|&origin| self.fillings[origin].place / 192 == receiver)?;
-            let selector = self.fillings[origin].place % 64;
+                .find(|&origin| self.fillings[origin].place / DOMAIN_PLACES == receiver)?;
+            let (_, selector) = within(self.fillings[origin].place);
             let first = *start.get_or_insert(selector);
             if selector != first + offset
                 || first % (1 << order) != 0
@@ -449,8 +457,8 @@ impl History {
 
     /// For each place, the other places that hold a filling which came from the one it holds.
     fn heirs(&self) -> Vec<Vec<u32>> {
-        let mut heirs = vec![Vec::new(); 1536];
-        for heir in 0..1536 {
+        let mut heirs = vec![Vec::new(); PLACES as usize];
+        for heir in 0..PLACES {
             let Some(filling) = self.held(heir) else {
                 continue;
             };
@@ -466,7 +474,7 @@ impl History {
 }
 
 fn tables_agree(history: &History, world: &World) {
-    for number in 0..1536 {
+    for number in 0..PLACES {
         assert_eq!(world.row(number), history.row(number), "place {number}");
     }
     for number in 0..64 {
@@ -479,10 +487,14 @@ fn tables_agree(history: &History, world: &World) {
     }
 }
 
-/// Every place's census is its heirs; the number of heirs in all.
+/// Every live place's census is its heirs; the number of heirs in all.
 fn censuses_agree(history: &History, world: &World, random: &mut Random) -> usize {
     let all = history.heirs();
     for (number, heirs) in (0..).zip(&all) {
+        // Most places are null, and of these one in eight is asked about.
+        if history.held(number).is_none() && random.below(8) > 0 {
+            continue;
+        }
         let extra = random.below(3) as usize;
         let mut list = vec![5555; heirs.len() + extra];
         let reply = world.census(number, &mut list);
@@ -511,7 +523,7 @@ fn censuses_agree(history: &History, world: &World, random: &mut Random) -> usiz
 fn revocations_agree(history: &History, world: &World) {
     let all = history.heirs();
     for (number, heirs) in (0..).zip(&all) {
-        let domain = number / 192;
+        let domain = number / DOMAIN_PLACES;
         let ecs = (0..)
             .zip(&history.objects)
             .filter(|(_, object)| object[0] == 2 && object[1] == domain);
@@ -520,7 +532,8 @@ fn revocations_agree(history: &History, world: &World) {
         }
         for (ec, _) in ecs {
             let mut after = world.clone();
-            let descriptor = range(number % 192 / 64, number % 64, 0, 31);
+            let (space, selector) = within(number);
+            let descriptor = range(space, selector, 0, 31);
             after.does(7, ec, &[descriptor, 0]);
             let mut expected = world.clone();
             for &heir in heirs {
@@ -602,7 +615,7 @@ fn follow_all(kind: Kind, seeds: u64, records: usize, heirs: usize) {
 fn boot_adds_its_fillings_in_the_order_of_the_places() {
     let history = History::boot();
     let places = history.fillings.iter().map(|filling| filling.place);
-    let expected = (0..156).chain([254, 255, 352, 353, 354]);
+    let expected = (0..156).chain([446, 447, 544, 545, 546]);
     assert!(places.eq(expected));
 }
 
@@ -613,16 +626,16 @@ fn the_sources_at_boot_are_those_of_two_pages() {
     for filling in &history.fillings {
         let source = filling.source.map(|source| history.fillings[source].place);
         let (from, heirs) = match filling.place {
-            254 => (Some(62), vec![]),
-            255 => (Some(63), vec![]),
-            62 => (None, vec![254]),
-            63 => (None, vec![255]),
+            446 => (Some(62), vec![]),
+            447 => (Some(63), vec![]),
+            62 => (None, vec![446]),
+            63 => (None, vec![447]),
             _ => (None, vec![]),
         };
         assert_eq!(source, from, "place {}", filling.place);
         assert_eq!(all[filling.place as usize], heirs);
     }
-    for number in 0..1536 {
+    for number in 0..PLACES {
         assert_eq!(history.row(number), listed_row(number), "place {number}");
     }
 }

@@ -14,7 +14,9 @@ use model::tables::{Domain, Place, Selector, Space};
 use model::{Hypercall, Reply, Status};
 
 use crate::generator::{every_status_of_every_call, refused_mask, Received};
+use crate::object_uses::ObjectUses;
 use crate::page_uses::PageUses;
+use crate::world::{DEPTH_LIMIT, PLACES};
 
 /// A file of the replay program's crate.
 pub fn replay_file(name: &str) -> PathBuf {
@@ -103,8 +105,8 @@ pub struct Features {
     cut_after_kind: u32,
     bad: u32,
     bad_last_byte: u32,
-    depth_31: u32,
-    refused_at_depth_31: u32,
+    depth_limit: u32,
+    refused_at_the_limit: u32,
     all_records: u32,
     all_domains: u32,
     no_room_for_a_domain: u32,
@@ -120,6 +122,10 @@ pub struct Features {
     translated_ranges: u32,
     untranslated: u32,
     window_too_small: u32,
+    /// Translations between domains over more than half of the depth limit, and over all of it
+    /// but one step at most.
+    translated_far: u32,
+    translated_farthest: u32,
     received: Received,
     revoked_beyond_children: u32,
     revoked_inside_the_range: u32,
@@ -129,6 +135,7 @@ pub struct Features {
     initial_ranges: u32,
     new_selector_in_initial_range: u32,
     pub page_uses: PageUses,
+    pub object_uses: ObjectUses,
 }
 
 /// An item and the window that its kind uses, in one space, between two domains.
@@ -171,6 +178,16 @@ fn overlap(one: Range, other: Range) -> bool {
 }
 
 impl Features {
+    /// Depth 63, sources refused there, and translations up long chains.
+    pub fn chains(&self) -> [u32; 4] {
+        [
+            self.depth_limit,
+            self.refused_at_the_limit,
+            self.translated_far,
+            self.translated_farthest,
+        ]
+    }
+
     pub fn journal(&mut self, bytes: &[u8]) {
         let mut replay = Replay::new(bytes);
         let mut before = replay.machine.clone();
@@ -207,10 +224,11 @@ impl Features {
         let domains = rows().filter(|row| row[0] == 1).count();
         self.all_records += u32::from(used == 64);
         self.all_domains += u32::from(domains == 7);
-        self.depth_31 += u32::from(after.places.chunks(4).any(|row| row[3] == 31));
+        self.depth_limit += u32::from(after.places.chunks(4).any(|row| row[3] == DEPTH_LIMIT));
         if let Some((space, mask)) = refused_mask(record, status) {
             self.refused_masks[space as usize][usize::from(mask != 0)] += 1;
         }
+        self.object_uses.called(record, status);
         match (record.hypercall, status) {
             (Hypercall::CreatePd, Status::NoRoom) if used < 64 => self.no_room_for_a_domain += 1,
             (Hypercall::CreatePd, Status::NoRoom) if domains < 7 => self.no_room_for_a_record += 1,
@@ -226,8 +244,8 @@ impl Features {
     }
 
     fn create_pd(&mut self, before: &Machine, record: &Record, after: &Machine) {
-        let [new, _, initial, ..] = record.arguments;
-        let Some(initial) = range(initial) else {
+        let [new, _, word, ..] = record.arguments;
+        let Some(initial) = range(word) else {
             return;
         };
         let caller = domain_of(before, record.caller);
@@ -235,9 +253,12 @@ impl Features {
         let created = Domain::new(created).expect("a domain of sound tables");
         let filled = initial.places(created).any(|place| is_live(after, place));
         self.initial_ranges += u32::from(filled);
+        if filled {
+            self.object_uses.initial(word);
+        }
         let holds_new = (0..initial.length()).any(|offset| {
             let source = initial.place(caller, offset);
-            source.selector().number() == new % 64
+            source.selector() == Selector::wrapped(new, Space::Object)
         });
         self.new_selector_in_initial_range += u32::from(holds_new);
     }
@@ -257,9 +278,12 @@ impl Features {
             let at = 65 - 2 * count as usize;
             let second = record.source[at - 1];
             let delegates = second & 1 == 1;
-            let item = range(record.source[at]);
-            let window = range(part.target[if delegates { 2 } else { 1 }])
-                .filter(|window| item.is_some_and(|item| item.space == window.space));
+            let words = (record.source[at], part.target[1 + second as usize % 2]);
+            self.object_uses
+                .received(words.0, words.1, delegates, part.target[at]);
+            let item = range(words.0);
+            let window =
+                range(words.1).filter(|window| item.is_some_and(|item| item.space == window.space));
             if let (Some(item), Some(window)) = (item, window) {
                 let transfer = Transfer {
                     sender,
@@ -313,11 +337,13 @@ impl Features {
                 let places = [source, destination];
                 self.page_uses.delegated(before, places, is_filled);
             }
-            self.refused_at_depth_31 += u32::from(is_free && is_allowed && depth == 31);
-            self.onto_a_live_place += u32::from(!is_free && is_allowed && depth < 31 && is_moved);
+            self.refused_at_the_limit += u32::from(is_free && is_allowed && depth == DEPTH_LIMIT);
+            self.onto_a_live_place +=
+                u32::from(!is_free && is_allowed && depth < DEPTH_LIMIT && is_moved);
             self.handed_on_in_one_message += u32::from(is_filled && filled.contains(&source));
             if is_filled {
                 filled.push(destination);
+                self.object_uses.filled([source, destination]);
             }
             fills |= is_filled;
             let tempting = is_live(before, from.place(Domain::HYPERVISOR, offset));
@@ -343,10 +369,16 @@ impl Features {
         self.translated += u32::from(shown != 0);
         self.translated_ranges += u32::from(shown != 0 && item.order > 0);
         self.untranslated += u32::from(shown == 0);
-        let nearest =
-            ancestors(machine, item.place(sender, 0)).find(|above| above.domain() == receiver);
-        let outside = nearest.is_some_and(|above| !window.covers(above.selector(), item.order));
-        self.window_too_small += u32::from(outside);
+        let nearest = (1..)
+            .zip(ancestors(machine, item.place(sender, 0)))
+            .find(|(_, above)| above.domain() == receiver);
+        let Some((steps, above)) = nearest else {
+            return;
+        };
+        self.window_too_small += u32::from(!window.covers(above.selector(), item.order));
+        let between = shown != 0 && sender != receiver;
+        self.translated_far += u32::from(between && steps > DEPTH_LIMIT / 2);
+        self.translated_farthest += u32::from(between && steps >= DEPTH_LIMIT - 1);
         if sender != receiver && receiver == Domain::ROOT {
             self.page_uses.translated(machine, shown);
         }
@@ -363,8 +395,12 @@ impl Features {
             self.page_uses.revoked(before, range, with_self, after);
         }
         let origins: Vec<Place> = range.places(caller).collect();
-        let places = (0..1536).filter_map(Place::from_number);
-        for place in places.filter(|&place| row(before, place) != row(after, place)) {
+        let places = (0..PLACES).filter_map(Place::from_number);
+        let changed: Vec<Place> = places
+            .filter(|&place| row(before, place) != row(after, place))
+            .collect();
+        self.object_uses.revoked(descriptor, &changed);
+        for place in changed {
             let depth = ancestors(before, place).position(|above| origins.contains(&above));
             self.revoked_beyond_children += u32::from(depth.is_some_and(|depth| depth > 0));
             if origins.contains(&place) {
@@ -376,6 +412,7 @@ impl Features {
 
     fn lookup(&mut self, machine: &Machine, record: &Record, answer: u32) {
         let named = range(record.arguments[0]);
+        self.object_uses.looked_up(record.arguments[0], answer);
         if let (Some(named), Domain::ROOT) = (named, domain_of(machine, record.caller)) {
             self.page_uses.looked_up(named, answer);
         }
@@ -397,8 +434,8 @@ fn the_stored_journals_hold_every_feature() {
         ("a lone kind byte", all.cut_after_kind),
         ("a bad kind", all.bad),
         ("a bad kind as the last byte", all.bad_last_byte),
-        ("depth 31", all.depth_31),
-        ("a source refused at depth 31", all.refused_at_depth_31),
+        ("depth 63", all.depth_limit),
+        ("a source refused at depth 63", all.refused_at_the_limit),
         ("all records", all.all_records),
         ("all domains", all.all_domains),
         (
@@ -420,6 +457,8 @@ fn the_stored_journals_hold_every_feature() {
         ("a translated range", all.translated_ranges),
         ("a failed translation", all.untranslated),
         ("an ancestor outside the window", all.window_too_small),
+        ("a translation over more than 31 steps", all.translated_far),
+        ("a translation over 62 steps", all.translated_farthest),
         ("a revoked grandchild", all.revoked_beyond_children),
         (
             "a revoked place of the range, self 0",
@@ -443,6 +482,9 @@ fn the_stored_journals_hold_every_feature() {
     for (feature, count) in counts {
         assert!(count > 0, "no journal holds {feature}");
     }
+    for (feature, count) in all.object_uses.counts() {
+        assert!(count > 1, "{feature}: {count} times");
+    }
     let counts = [all.received.counts(), all.page_uses.counts()];
     for (feature, count) in counts.into_iter().flatten() {
         assert!(count >= 5, "{feature}: {count} times");
@@ -463,7 +505,7 @@ fn each_generated_journal_holds_what_its_name_says() {
             "every-call" => Hypercall::ALL
                 .map(|call| u32::from(held.statuses.contains(&(call.number(), 0))))
                 .to_vec(),
-            "depth-limit" => vec![held.depth_31, held.refused_at_depth_31],
+            "depth-limit" => held.chains().to_vec(),
             "all-domains" => vec![held.all_domains, held.no_room_for_a_domain],
             "all-records" => vec![held.all_records, held.no_room_for_a_record],
             "hypervisor-flag" => vec![

@@ -1,5 +1,6 @@
 //! Tests of the model, by subject.
 
+mod chains;
 mod checks;
 mod damage;
 mod examples;
@@ -7,6 +8,7 @@ mod generator;
 mod history;
 mod journals;
 mod messages;
+mod object_uses;
 mod page_uses;
 mod pages;
 mod programs;

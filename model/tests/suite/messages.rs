@@ -176,11 +176,14 @@ fn equal_orders_do_not_read_the_hotspot() {
 #[test]
 fn object_ranges_wrap() {
     let mut world = World::partners();
-    let (item, window) = (range(OBJECT, 64 + 32, 0, 31), range(OBJECT, 128 + 8, 3, 0));
+    let (item, window) = (
+        range(OBJECT, 256 + 32, 0, 31),
+        range(OBJECT, 512 + 136, 3, 0),
+    );
     let shown = world.shows(ROOT_EC, TO_CHILD, (item, hot(5)), windows(0, window));
-    assert_eq!(shown, (range(OBJECT, 13, 0, 31), 1));
+    assert_eq!(shown, (range(OBJECT, 141, 0, 31), 1));
     assert_eq!(
-        world.row(place(2, OBJECT, 13)),
+        world.row(place(2, OBJECT, 141)),
         [28, 31, place(1, OBJECT, 32) + 1, 1]
     );
 }
@@ -216,43 +219,6 @@ fn each_item_sees_what_the_one_before_left() {
         world.row(place(1, MEMORY, 12)),
         [4, 3, place(1, MEMORY, 11) + 1, 3]
     );
-}
-
-#[test]
-fn depth_stops_at_its_limit() {
-    let mut world = World::partners();
-    let wide = range(MEMORY, 0, 6, 0);
-    assert_eq!(
-        world.gives(
-            TO_ROOT_2,
-            range(MEMORY, 9, 0, 7),
-            wide,
-            hot(1) | FROM_HYPERVISOR
-        ),
-        1
-    );
-    for selector in 1..31 {
-        assert_eq!(
-            world.gives(
-                TO_ROOT_2,
-                range(MEMORY, selector, 0, 7),
-                wide,
-                hot(selector + 1)
-            ),
-            1
-        );
-    }
-    let last = place(1, MEMORY, 31);
-    assert_eq!(world.row(last), [9, 7, last, 31]);
-    for portal in [TO_ROOT_2, TO_CHILD] {
-        assert_eq!(
-            world.gives(portal, range(MEMORY, 31, 0, 7), wide, hot(40)),
-            0
-        );
-    }
-    assert_eq!(world.row(place(1, MEMORY, 40)), NULL);
-    assert_eq!(world.heirs(place(1, MEMORY, 1)).len(), 30);
-    assert_eq!(world.heirs(place(0, MEMORY, 9)).len(), 31);
 }
 
 /// The root's pages 8..15 (pages 0..7 of domain 0) lie at the child's 32..39.

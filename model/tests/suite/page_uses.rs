@@ -5,7 +5,7 @@ use model::journal::Machine;
 use model::tables::{Domain, Place, Space};
 
 use crate::journals::{ancestors, is_live, range, row};
-use crate::world::{place, MEMORY, ROOT_PAGES};
+use crate::world::{place, MEMORY, PLACES, ROOT_PAGES};
 
 /// The page below the root's two, which boot does not lend.
 const PAGE_BELOW: u32 = 61;
@@ -84,7 +84,7 @@ impl PageUses {
                 continue;
             }
             let [own, _] = places(page);
-            let all = (0..1536).filter_map(Place::from_number);
+            let all = (0..PLACES).filter_map(Place::from_number);
             let heirs: Vec<Place> = all
                 .filter(|&place| ancestors(before, place).any(|above| above == own))
                 .collect();

@@ -77,8 +77,9 @@ fn faulty() -> impl Iterator<Item = Word> {
         range(IO, 7, 1, 31),
         range(IO, 64, 3, 1),
         range(IO, 0xfffff, 31, 31),
-        range(OBJECT, 0, 7, 31),
-        range(OBJECT, 32, 6, 31),
+        range(OBJECT, 0, 9, 31),
+        range(OBJECT, 64, 7, 31),
+        range(OBJECT, 128, 8, 31),
         range(OBJECT, 65, 1, 31),
         range(OBJECT, 0xfffff, 31, 31),
     ];
@@ -101,7 +102,7 @@ fn items() -> Vec<Word> {
             good(space, NOWHERE, 0, 31, [false, false]),
         ]
     });
-    let wrapped = good(OBJECT, 64 + TO_ROOT, 0, 31, [true, true]);
+    let wrapped = good(OBJECT, 256 + TO_ROOT, 0, 31, [true, true]);
     faulty().chain(ranges).chain([wrapped]).collect()
 }
 
@@ -111,10 +112,10 @@ fn windows_of_the_root() -> Vec<Word> {
         [
             good(space, selector, 0, 31, [true, false]),
             good(space, NOWHERE, 0, 0, [false, true]),
-            good(space, 0, 6, 1, [true, true]),
+            good(space, 0, ORDERS[space as usize], 1, [true, true]),
         ]
     });
-    let wrapped = good(OBJECT, 128 + NOWHERE, 0, 0, [false, true]);
+    let wrapped = good(OBJECT, 512 + NOWHERE, 0, 0, [false, true]);
     faulty().chain(ranges).chain([wrapped]).collect()
 }
 

@@ -5,6 +5,8 @@ use model::journal::{self, Machine, Record, Replay, Step};
 use model::random::Random;
 use model::{Hypercall, Status};
 
+use crate::world::{PLACES, SELECTORS};
+
 fn words(random: &mut Random, length: usize) -> Vec<u32> {
     let shift = random.below(32);
     (0..length).map(|_| random.word() >> shift).collect()
@@ -26,7 +28,7 @@ fn length(random: &mut Random, right: u32) -> usize {
 fn junk_tables_of_any_length_are_refused_unchanged() {
     let mut random = Random::new(7);
     for _ in 0..1500 {
-        let (place_words, object_words) = (length(&mut random, 6144), length(&mut random, 320));
+        let (place_words, object_words) = (length(&mut random, 12_288), length(&mut random, 320));
         let mut places = words(&mut random, place_words);
         let mut objects = words(&mut random, object_words);
         let (source_words, target_words) = (length(&mut random, 64), length(&mut random, 64));
@@ -51,7 +53,7 @@ fn junk_tables_of_any_length_are_refused_unchanged() {
             &mut target,
         );
         assert_eq!((reply.status, reply.answer), (Status::Damaged, 0));
-        let reply = model::census(random.below(1600), &places, &objects, &mut list);
+        let reply = model::census(random.below(3200), &places, &objects, &mut list);
         assert_eq!((reply.status, reply.answer), (Status::Damaged, 0));
         assert!(before == (places.clone(), objects.clone(), target, list));
         assert!(!model::is_sound(&places, &objects));
@@ -83,9 +85,10 @@ fn try_call(machine: &mut Machine, random: &mut Random, refused: &mut [u32; 20])
     };
     let mut arguments = [0; 6];
     for word in &mut arguments {
-        *word = match random.below(3) {
-            0 => random.below(64),
-            1 => random.below(64) << 12 | random.below(7) << 7 | random.below(128),
+        *word = match random.below(4) {
+            0 => random.below(4),
+            1 => random.below(SELECTORS[2]),
+            2 => random.below(SELECTORS[2]) << 12 | random.below(9) << 7 | random.below(128),
             _ => random.word() >> random.below(32),
         };
     }
@@ -142,7 +145,7 @@ fn refused_censuses_change_nothing() {
             let list_words = random.below(6) as usize;
             let mut list = vec![0xffff; list_words];
             let reply = model::census(
-                random.below(1600),
+                random.below(3200),
                 &machine.places,
                 &machine.objects,
                 &mut list,
@@ -150,7 +153,7 @@ fn refused_censuses_change_nothing() {
             seen[reply.status.number() as usize] += 1;
             if reply.status == Status::Success {
                 let count = reply.answer as usize;
-                assert!(list[..count].iter().all(|&place| place < 1536));
+                assert!(list[..count].iter().all(|&place| place < PLACES));
                 assert!(list[count..].iter().all(|&word| word == 0xffff));
             } else {
                 assert!(list.iter().all(|&word| word == 0xffff));

@@ -17,6 +17,18 @@ pub const MEMORY: u32 = 0;
 pub const IO: u32 = 1;
 pub const OBJECT: u32 = 2;
 
+/// Places of one domain and of all.
+pub const DOMAIN_PLACES: u32 = 384;
+pub const PLACES: u32 = 3072;
+
+/// By space: where it starts among a domain's places, its selectors, and the order of all of it.
+pub const STARTS: [u32; 3] = [0, 64, 128];
+pub const SELECTORS: [u32; 3] = [64, 64, 256];
+pub const ORDERS: [u32; 3] = [6, 6, 8];
+
+/// The greatest depth.
+pub const DEPTH_LIMIT: u32 = 63;
+
 pub const ROOT_EC: u32 = 29;
 pub const NULL: [u32; 4] = [0; 4];
 
@@ -42,7 +54,17 @@ pub const fn hot(hotspot: u32) -> u32 {
 }
 
 pub const fn place(domain: u32, space: u32, selector: u32) -> u32 {
-    domain * 192 + space * 64 + selector
+    domain * DOMAIN_PLACES + STARTS[space as usize] + selector
+}
+
+/// The space and the selector of a place.
+pub fn within(place: u32) -> (u32, u32) {
+    let rest = place % DOMAIN_PLACES;
+    let space = [OBJECT, IO, MEMORY]
+        .into_iter()
+        .find(|&space| rest >= STARTS[space as usize])
+        .expect("the first space starts at 0");
+    (space, rest - STARTS[space as usize])
 }
 
 /// The words of a place after boot, as the manual lists them.
@@ -52,11 +74,11 @@ pub const fn listed_row(place: u32) -> [u32; 4] {
         64..=127 => [place - 64, 1, 0, 0],
         128..=131 => [place - 128, 1, 0, 0],
         132..=155 => [place - 128, 3, 0, 0],
-        254 => [62, 3, 63, 1],
-        255 => [63, 1, 64, 1],
-        352 => [28, 31, 0, 0],
-        353 => [29, 7, 0, 0],
-        354 => [30, 1, 0, 0],
+        446 => [62, 3, 63, 1],
+        447 => [63, 1, 64, 1],
+        544 => [28, 31, 0, 0],
+        545 => [29, 7, 0, 0],
+        546 => [30, 1, 0, 0],
         _ => NULL,
     }
 }
@@ -127,7 +149,7 @@ impl World {
     /// The tables after boot, as the manual lists them.
     pub fn listed() -> World {
         World {
-            places: (0..1536).flat_map(listed_row).collect(),
+            places: (0..PLACES).flat_map(listed_row).collect(),
             objects: (0..64).flat_map(listed_record).collect(),
         }
     }
@@ -300,7 +322,7 @@ impl World {
 
     /// The strict descendants of a live place.
     pub fn heirs(&self, place: u32) -> Vec<u32> {
-        let mut list = vec![0; 1536];
+        let mut list = vec![0; PLACES as usize];
         let reply = self.census(place, &mut list);
         assert_eq!(reply.status, Status::Success);
         list.truncate(reply.answer as usize);

@@ -7,7 +7,7 @@ use std::fmt::Debug;
 use model::boot::{ROOT_EC, ROOT_SC};
 use model::generator::{journal, Kind};
 use model::journal::Record;
-use model::layout::{DOMAIN_PLACES, SPACE_START};
+use model::layout::{DEPTH_LIMIT, DOMAIN_PLACES, SELECTORS, SPACE_START};
 use model::random::Random;
 use model::{Hypercall, Status};
 use rudozhev::words::{
@@ -219,7 +219,7 @@ impl Comparison {
         let arguments = std::array::from_fn(|_| match self.random.below(8) {
             0 => self.word(),
             1 | 2 => self.descriptor(),
-            3 | 4 => self.random.below(64),
+            3 | 4 => self.random.below(2 * SELECTORS[2]),
             // Where the generator's journals put PDs, ECs and portals.
             _ => self.random.pick(&[32, 33, 35, 36, 41, 42, 48, 49]).unwrap_or(0),
         });
@@ -301,7 +301,7 @@ impl Comparison {
 
     /// A word at some edge, or any word.
     fn word(&mut self) -> u32 {
-        let edges = [0, 1, 2, 31, 32, 63, 64, 65, 1 << 31, u32::MAX - 1, u32::MAX];
+        let edges = [0, 1, 2, 31, 32, 63, 64, 65, 255, 256, 257, 1 << 31, u32::MAX - 1, u32::MAX];
         match self.random.below(3) {
             0 => self.random.word(),
             1 => self.random.word() >> self.random.below(32),
@@ -311,9 +311,10 @@ impl Comparison {
 
     /// A descriptor of any type and mask, mostly well-formed.
     fn descriptor(&mut self) -> u32 {
-        let order = self.random.below(7);
-        let base = self.random.below(64) >> order << order;
         let [mask, kind] = [32, 4].map(|limit| self.random.below(limit));
+        let selectors = SELECTORS[kind.saturating_sub(1) as usize];
+        let order = self.random.below(selectors.trailing_zeros() + 2);
+        let base = self.random.below(selectors + selectors / 8) >> order << order;
         base << 12 | order << 7 | mask << 2 | kind
     }
 
@@ -387,7 +388,7 @@ impl Comparison {
         let rows = words.len() / width;
         // Rows in use, and those outside domain 0, are of more interest.
         let mut row = 0;
-        for _ in 0..8 {
+        for _ in 0..16 {
             row = self.random.below(rows as u32) as usize * width;
             if words[row + 1] != 0 && (!in_places || row >= DOMAIN_PLACES as usize * width) {
                 break;
@@ -399,7 +400,7 @@ impl Comparison {
             0 => words[at] = words[at].wrapping_add(1),
             1 => words[at] = words[at].wrapping_sub(1),
             2 => words[at] ^= 1 << self.random.below(32),
-            3 => words[at] = self.random.below(70),
+            3 => words[at] = self.random.below(SELECTORS[2] + 4),
             4 => words[at] = self.word(),
             5 => words.swap(at, other + self.random.below(width as u32) as usize),
             6 => (0..width).for_each(|word| words.swap(row + word, other + word)),
@@ -409,7 +410,7 @@ impl Comparison {
             11 if in_places => {
                 // Every place outside domain 0, with small words.
                 for row in words[DOMAIN_PLACES as usize * PLACE_WIDTH..].chunks_mut(PLACE_WIDTH) {
-                    let limits = [66, 9, PLACES + 3, 33];
+                    let limits = [66, 9, PLACES + 3, DEPTH_LIMIT + 2];
                     row.copy_from_slice(&limits.map(|limit| self.random.below(limit)));
                 }
             }
@@ -433,8 +434,8 @@ impl Comparison {
                 row.fill(0);
             }
         }
-        let page = self.random.below(64);
-        for depth in 1..30 + self.random.below(6) {
+        let page = self.random.below(SELECTORS[0]);
+        for depth in 1..DEPTH_LIMIT - 1 + self.random.below(4) {
             let place = DOMAIN_PLACES - 1 + depth;
             let parent = if depth == 1 { page } else { place - 1 };
             let start = place as usize * PLACE_WIDTH;

@@ -17,7 +17,7 @@ use Rattle.interface.specs.Message.{payloadFits}
 use Rattle.interface.specs.PortalCalls.{portalCall}
 use Rattle.interface.specs.Rules.{hypercall, called, rules, after}
 use Rattle.interface.specs.Journal.{bodyBytes, bodyWord, recordedCall, done, short, unknown, ended, beginning, readBy, contentsFrom, stopLines, replay, width, spelled, spelledLines}
-use Rattle.interface.specs.Examples.{Each, rootLookup, placedLine, rootRevoke, revokeLine, calledExamples, maskExamples, neighbour, messageCap, messageRecord, messageState, blockBefore, blockReceived, exampleMessage, WorkedExamples, MessageExample, exampleJournal, JournalExample, lookupRecord, JournalStops, exampleRange, RangeExample, LayoutExamples}
+use Rattle.interface.specs.Examples.{Each, rootLookup, selectorWord, objectsTaken, lookupExamples, placedLine, rootRevoke, revokeLine, calledExamples, maskExamples, neighbour, messageCap, messageRecord, messageState, blockBefore, blockReceived, exampleMessage, WorkedExamples, MessageExample, exampleJournal, JournalExample, lookupRecord, JournalStops, exampleRange, RangeExample, LayoutExamples}
 use Rattle.interface.proofs.Tables.VerdictLaws.{sound-rules, after-verdict}
 use Rattle.interface.proofs.Sound.Soundness.{sound-facts, facts-sound, tested-sound, damage-rules}
 use Rattle.interface.proofs.History.BootLaws.{boot-tables, boot-sound}
@@ -41,7 +41,7 @@ revoke-after self =
     after-verdict placedLine (revokeLine (if self then 1 else 0)) (grant 0 (cut 2 (placeOf root memory 8) 1 self ∷ [])) (revoke-granted self)
 
 abbrev lineCaps : State → List Cap
-lineCaps s = s .caps 200 ∷ s .caps 392 ∷ s .caps 584 ∷ []
+lineCaps s = s .caps 392 ∷ s .caps 776 ∷ s .caps 1160 ∷ []
 
 called-examples : Each calledExamples
 unfolding descriptors boot-tables steps
@@ -62,15 +62,30 @@ mask-examples =
     ap replyOf (revoked-at 32782) and ap replyOf (revoked-at 163843) and ap replyOf (revoked-at 163907) and ap replyOf (revoked-at 0) and ap replyOf (revoked-at 32) and tt
 
 -- the root's LOOKUP after boot
-looked-up : (space selector : ℕ) → rules boot (rootLookup space selector) ≡ called boot (rootLookup space selector) (hypercall LOOKUP)
-looked-up space selector = sound-rules boot (rootLookup space selector) boot-sound
+looked-up : (descriptor : ℕ) → rules boot (rootLookup descriptor) ≡ called boot (rootLookup descriptor) (hypercall LOOKUP)
+looked-up descriptor = sound-rules boot (rootLookup descriptor) boot-sound
+
+-- and where it has taken objects 0 to 15
+taken-sound : soundState objectsTaken ≡ true
+unfolding damage-rules boot-tables
+taken-sound =
+    tested-sound objectsTaken (refl and refl and refl and refl and refl and refl and refl and refl and tt) (refl and refl and refl and refl and tt)
+
+taken-looked-up : (descriptor : ℕ) → rules objectsTaken (rootLookup descriptor) ≡ called objectsTaken (rootLookup descriptor) (hypercall LOOKUP)
+taken-looked-up descriptor = sound-rules objectsTaken (rootLookup descriptor) taken-sound
+
+lookup-examples : Each lookupExamples
+unfolding dispatch descriptors isEc boot-tables allBelow uniform largest around found lookup
+lookup-examples =
+    ap replyOf (looked-up 1027) and ap replyOf (looked-up 1155) and taken-sound and ap replyOf (taken-looked-up (selectorWord object 200)) and
+    ap replyOf (taken-looked-up (selectorWord object 456)) and ap replyOf (taken-looked-up (selectorWord object 208)) and refl and refl and tt
 
 pub worked-examples : WorkedExamples
 unfolding dispatch descriptors isEc boot-tables steps listed allBelow lowest uniform largest around found lookup
 worked-examples =
     refl and refl and refl and refl and refl and refl and refl and refl and refl and refl and refl and refl and refl and refl and refl and refl and
-    ap replyOf (looked-up object 32) and ap replyOf (looked-up object 35) and ap replyOf (looked-up memory 63) and ap replyOf (looked-up memory 62) and
-    ap replyOf (looked-up memory 61) and called-examples and mask-examples and tt
+    refl and refl and refl and refl and refl and refl and ap replyOf (looked-up (selectorWord object 32)) and ap replyOf (looked-up (selectorWord object 35)) and ap replyOf (looked-up (selectorWord memory 63)) and ap replyOf (looked-up (selectorWord memory 62)) and
+    ap replyOf (looked-up (selectorWord memory 61)) and called-examples and mask-examples and lookup-examples and tt
 
 -- to unfold this is to unfold what the lines of journals on states compute by
 unfoldable journals : Unit {0}

@@ -2,6 +2,7 @@
 use Prim.Native.Nat.{ℕ, _+_, _≤_}
 use mathlib.Core.Path.{_≡_, refl, _∙_}
 use mathlib.Core.Bool.{true, false, _||_}
+use mathlib.Core.List.{[], _∷_}
 use native.Mathlib.Omega.{arith}
 use Rattle.words.specs.Sizes.{places}
 use Rattle.reply.specs.declared.Fault.the-variants.{NoFault, AtRecord}
@@ -12,10 +13,10 @@ use Rattle.interface.specs.Damage.{rulesOfDamage, firstFault, soundState
 use Rattle.interface.specs.Effects.{among}
 use Rattle.interface.specs.History.{latest, standing, held, origins, placeLink, heldCap, heldAmong, cutFilling, note, noteAll, cameFrom, heir}
 use Rattle.interface.specs.Examples.{Each}
-use Rattle.interface.specs.SmallCases.{placeChanged, recordsChanged, placesChanged, deepLine, faultOf, damageCases, reasonCases, SmallCases}
+use Rattle.interface.specs.SmallCases.{placeChanged, recordChanged, recordsChanged, placesChanged, deepLine, faultOf, damageCases, reasonCases, SmallCases}
 use Rattle.interface.proofs.Basics.BoolLaws.{not-both}
 use Rattle.interface.proofs.Basics.PutLaws.{put-other}
-use Rattle.interface.proofs.Sound.Soundness.{damage-rules}
+use Rattle.interface.proofs.Sound.Soundness.{damage-rules, tested-sound}
 use Rattle.interface.proofs.History.BootLaws.{utcbPlace, informationPlace, boot-tables, boot-sound}
 use Rattle.interface.proofs.Consequences.DamageReportLaws.{kept-none}
 use Rattle.interface.proofs.Examples.Shared.{_and_, descriptors, steps, items}
@@ -40,17 +41,24 @@ module _ (first size : ℕ) (cap : Cap) (fit : first + size ≤ places) (is-firs
       ∙ put-other (boot .caps) second cap p (other-place second p is-second f))
       parents-apart
 
-line-changed : (delegations : ℕ) → 192 + delegations ≤ places → faultOf (deepLine delegations) ≡ placeFault 192 delegations (deepLine delegations) placeRules
-line-changed delegations fit = place-fault (deepLine delegations .caps) 192 delegations fit (λ p f. rw f) refl
+line-changed : (delegations : ℕ) → 384 + delegations ≤ places → faultOf (deepLine delegations) ≡ placeFault 384 delegations (deepLine delegations) placeRules
+line-changed delegations fit = place-fault (deepLine delegations .caps) 384 delegations fit (λ p f. rw f) refl
+
+-- an EC with the greatest event base is no damage
+ec-changed : faultOf (recordChanged boot 31 (2 ∷ 1 ∷ 0 ∷ 255 ∷ 0 ∷ [])) ≡ NoFault
+unfolding damage-rules boot-tables put soundState
+ec-changed =
+    kept-none (recordChanged boot 31 (2 ∷ 1 ∷ 0 ∷ 255 ∷ 0 ∷ [])) rulesOfDamage
+    (tested-sound (recordChanged boot 31 (2 ∷ 1 ∷ 0 ∷ 255 ∷ 0 ∷ [])) (refl and refl and refl and refl and refl and refl and refl and refl and tt) (refl and refl and refl and refl and tt))
 
 damage-cases : Each damageCases
 unfolding damage-rules boot-tables put lowest recordFault placeFault
 damage-cases =
     record-fault _ _ _ refl and record-fault _ _ _ refl and record-fault _ _ _ refl and record-fault _ _ _ refl and record-fault _ _ _ refl and
-    record-fault _ _ _ refl and record-fault _ _ _ refl and record-fault _ _ _ refl and record-fault _ _ _ refl and record-fault _ _ _ refl and
-    record-fault _ _ _ refl and record-fault _ _ _ refl and record-fault _ _ _ refl and record-fault _ _ _ refl and (one-changed 200 1 _ (omega arith) refl refl ∙ refl) and
-    (one-changed 200 1 _ (omega arith) refl refl ∙ refl) and (one-changed 200 1 _ (omega arith) refl refl ∙ refl) and (one-changed 255 1 _ (omega arith) refl refl ∙ refl) and
-    (two-changed 254 2 _ (omega arith) refl refl 255 refl ∙ refl) and (line-changed 32 (omega arith) ∙ refl) and (line-changed 31 (omega arith) ∙ refl) and tt
+    record-fault _ _ _ refl and record-fault _ _ _ refl and record-fault _ _ _ refl and ec-changed and record-fault _ _ _ refl and record-fault _ _ _ refl and
+    record-fault _ _ _ refl and record-fault _ _ _ refl and record-fault _ _ _ refl and record-fault _ _ _ refl and (one-changed 392 1 _ (omega arith) refl refl ∙ refl) and
+    (one-changed 392 1 _ (omega arith) refl refl ∙ refl) and (one-changed 392 1 _ (omega arith) refl refl ∙ refl) and (one-changed 447 1 _ (omega arith) refl refl ∙ refl) and
+    (two-changed 446 2 _ (omega arith) refl refl 447 refl ∙ refl) and (line-changed 64 (omega arith) ∙ refl) and (line-changed 63 (omega arith) ∙ refl) and tt
 
 -- a record that changed comes before places that did
 record-before : faultOf (recordsChanged (placesChanged 9 11 (record { resource = 9; permissions = 1; parent = 0; depth = 0 })) 2 3) ≡ AtRecord 2 2
@@ -74,5 +82,5 @@ reason-cases =
 pub small-cases : SmallCases
 unfolding small-definitions items damage-rules boot-tables put lowest recordFault placeFault
 small-cases =
-    refl and refl and refl and refl and refl and refl and refl and refl and refl and refl and refl and refl and refl and refl and reason-cases and boot-faultless and
+    refl and refl and refl and refl and refl and refl and refl and refl and refl and refl and refl and refl and refl and refl and refl and refl and refl and reason-cases and boot-faultless and
     (two-changed 9 3 _ (omega arith) refl refl 11 refl ∙ refl) and record-before and record-fault _ _ _ refl and (two-changed 1000 2 _ (omega arith) refl refl 1001 refl ∙ refl) and damage-cases and tt

@@ -35,7 +35,7 @@ read-so {A} {B} {C} {D} false true true objects ends range n y f a d =
     (λ (h : (objects || ends) ≡ false). rw h (λ e. (y refl, inr (inr (d .0 h))), λ x. refl))
 
 -- a range that ends within a memory or an I/O space has no order above theirs
-order-inside : (order base : ℕ) → base + 2 ^ order ≤ 2 ^ pageOrder → order ≤ pageOrder
+pub order-inside : (order base : ℕ) → base + 2 ^ order ≤ 2 ^ pageOrder → order ≤ pageOrder
 order-inside order base inside =
     cases (leb order pageOrder) (λ (t : leb order pageOrder ≡ true). leb-true order pageOrder t)
     (λ (f : leb order pageOrder ≡ false).
