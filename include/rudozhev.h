@@ -182,8 +182,8 @@ RUDOZHEV_ANSWERS static inline uint32_t rudozhev_place(uint32_t domain, enum rud
     return domain * RUDOZHEV_DOMAIN_PLACES + (uint32_t)space * RUDOZHEV_PAGE_SELECTORS + selector;
 }
 
-/* What a place number stands for: one that a census lists, a damage report names or a
- * parent word has, less 1. */
+/* What a place number stands for: one that a census lists or a damage report names, or
+ * that a parent word less 1 is. */
 struct rudozhev_position {
     uint32_t domain; /* RUDOZHEV_DOMAINS, which there is not, for a number that no place has */
     enum rudozhev_space space;

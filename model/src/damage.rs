@@ -296,13 +296,17 @@ const GROUP: usize = 8;
 
 /// Rules 10 to 12, and 11's tie to the objects, for the domains above 0.
 fn places_are_sound(places: &PlaceTable, facts: &ObjectFacts) -> bool {
+    const {
+        assert!(
+            GROUP.is_power_of_two() && GROUP <= 64,
+            "spaces have whole groups"
+        )
+    };
     for domain in 1..DOMAINS {
         for space in Space::ALL {
             let start = (domain * DOMAIN_PLACES + SPACE_START[space as usize]) as usize;
             let rows = &places[start..start + space.selectors() as usize];
-            let (groups, rest) = rows.as_chunks::<GROUP>();
-            debug_assert!(rest.is_empty(), "every space has whole groups");
-            for group in groups {
+            for group in rows.as_chunks::<GROUP>().0 {
                 let bits = group
                     .as_flattened()
                     .iter()

@@ -118,9 +118,9 @@ const ROOT: Context = Context {
 
 /// Root selectors that the first calls of a journal fill: PDs, then their ECs,
 /// and further up the portals to those ECs and to two ECs of the root.
-const PD_SELECTOR: u32 = 35;
-const EC_SELECTOR: u32 = 42;
-const PT_SELECTOR: u32 = 200;
+pub const PD_SELECTOR: u32 = 35;
+pub const EC_SELECTOR: u32 = 42;
+pub const PT_SELECTOR: u32 = 200;
 const PT_ORDER: u32 = 3;
 const ROOT_SECOND_EC: u32 = 41;
 
@@ -312,7 +312,7 @@ impl Generator {
     }
 
     /// The widest order in so many cases of a hundred, else a small one.
-    fn window_order(&mut self, space: Space, chance: u32) -> u32 {
+    fn wide_order(&mut self, space: Space, chance: u32) -> u32 {
         if self.random.percent(chance) {
             space.order_limit()
         } else {
@@ -320,9 +320,9 @@ impl Generator {
         }
     }
 
-    /// A number of so many bits that names a selector where selectors wrap.
+    /// A number of so many bits that wraps to a selector of a space.
     fn turned(&mut self, selector: u32, space: Space, bits: u32) -> u32 {
-        let turns = (u32::MAX >> (u32::BITS - bits)) / space.selectors();
+        let turns = 1 << (bits - space.order_limit());
         selector + self.random.below(turns) * space.selectors()
     }
 
@@ -350,7 +350,7 @@ impl Generator {
             0 => self.random.word(),
             1 => self.random.word() & !3,
             2 => {
-                // The base is not aligned, or lies past the space.
+                // The base may not be aligned, or lie past the space.
                 let base = self.random.below(space.selectors() * 5 / 4);
                 Descriptor::new(space, base, order, mask).word()
             }
@@ -469,7 +469,7 @@ impl Generator {
     fn settle(&mut self, children: u32, other_cpu: u32) {
         for child in 0..children {
             let limit = Space::Object.order_limit();
-            let order = self.window_order(Space::Object, 10).min(limit);
+            let order = self.wide_order(Space::Object, 10).min(limit);
             let mask = self.mask();
             let initial = match self.random.below(4) {
                 0 => Descriptor::NULL.word(),
@@ -663,7 +663,7 @@ impl Generator {
             .unwrap_or(anywhere);
         let mask = self.mask();
         let descriptor = self.around(space, selector, order, mask);
-        let window_order = self.window_order(space, 60);
+        let window_order = self.wide_order(space, 60);
         let window_mask = self.mask();
         let window = self.around(space, origin, window_order, window_mask);
         let unread = if self.random.percent(30) {
@@ -695,7 +695,7 @@ impl Generator {
         let anywhere = self.random.below(space.selectors());
         let target = self.random.pick(&null).unwrap_or(anywhere);
         // The widest window lets each hotspot pick its destination.
-        let window_order = self.window_order(space, if deep { 85 } else { 45 });
+        let window_order = self.wide_order(space, if deep { 85 } else { 45 });
         let window_mask = self.mask();
         let mut delegate_window = self.around(space, target, window_order, window_mask);
         let translate_space = self.space();

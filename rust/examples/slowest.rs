@@ -145,9 +145,9 @@ fn translated() -> Result<Lent, Refusal> {
     let mut lent = lines()?;
     lent.source[0] = 30 << 16;
     for item in lent.source[4..].chunks_mut(2) {
-        item[1] = word(Space::Object, 0, 8);
+        item[1] = word(Space::Object, 0, Space::Object.greatest_order());
     }
-    lent.target[1] = word(Space::Object, 0, 8);
+    lent.target[1] = word(Space::Object, 0, Space::Object.greatest_order());
     Ok(lent)
 }
 
@@ -160,9 +160,9 @@ fn delegated() -> Result<Lent, Refusal> {
         .for_each(|number| lend(&mut lent, portal, place(SENDER, Space::Object, number)));
     lent.source[0] = 30 << 16;
     for item in lent.source[4..].chunks_mut(2) {
-        item.copy_from_slice(&[1, word(Space::Object, 0, 8)]);
+        item.copy_from_slice(&[1, word(Space::Object, 0, Space::Object.greatest_order())]);
     }
-    lent.target[2] = word(Space::Object, 0, 8);
+    lent.target[2] = word(Space::Object, 0, Space::Object.greatest_order());
     Ok(lent)
 }
 
@@ -206,7 +206,8 @@ fn least(case: &Case, flushed: bool) -> Duration {
 
 /// Whether the callee is shown all object selectors 30 times.
 fn shows_all(mut lent: Lent) -> bool {
-    let all = Descriptor::new(Space::Object, 0, 8, 3).map(Descriptor::word);
+    let all =
+        Descriptor::new(Space::Object, 0, Space::Object.greatest_order(), 3).map(Descriptor::word);
     message(&mut lent) == Ok(0) && lent.target[4..].chunks(2).all(|item| Some(item[1]) == all)
 }
 

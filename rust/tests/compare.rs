@@ -60,6 +60,8 @@ fn calls_with_any_words_agree() -> Result<(), Difference> {
         let seen = all.statuses.range((Some(number), 0)..(Some(number + 1), 0)).count();
         assert!(seen >= 3, "hypercall {number} gave {seen} statuses");
     }
+    let sent = all.statuses.get(&(Some(Hypercall::Call.number()), 0));
+    assert!(sent.is_some_and(|&sent| sent > 50), "CALL succeeded {sent:?} times");
     Ok(())
 }
 

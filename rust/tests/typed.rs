@@ -261,7 +261,7 @@ fn a_chain_of_63_delegations_stands_and_no_64th_is_made() -> Result<(), Refusal>
     assert!(tables.census(place(64), &mut [0; 63])?.eq((65..128).map(place)));
 
     // The nearest ancestor of its end is the place before; the child has none of the chain.
-    let everything = range(Space::Object, 0, 8, 0);
+    let everything = range(Space::Object, 0, Space::Object.greatest_order(), 0);
     for (portal, shown) in [
         (39, Received::Translated(one(126))),
         (37, Received::NotTranslated(Reason::TranslationBroke)),

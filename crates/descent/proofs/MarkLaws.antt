@@ -1,15 +1,14 @@
 -- Laws of the marks of a revocation and of a census: what each place that is decided adds to the marks so far.
-use Prim.Native.Nat.{ℕ, _+_, _-_, _%_, _≤_, _<_}
+use Prim.Native.Nat.{ℕ, _+_, _*_, _%_, _^_, _≤_, _<_}
 use mathlib.Core.Path.{_≡_, refl, sym, ap, _∙_}
-use mathlib.Core.Bool.{Bool, true, false, _&&_, _||_, and-false}
+use mathlib.Core.Bool.{Bool, true, false, cond, _&&_, _||_, and-false}
 use mathlib.Core.List.{List}
-use native.Mathlib.Nat.{dvd-of-mod-eq-zero}
 use native.Mathlib.Omega.{arith}
 use lib.Dec.{eqb, ltb}
 use lib.ListN.{length}
 use borrow.Author.Tests.{ltb-true, ltb-false, eqb-true, eq-eqb, ne-eqb}
-use Rattle.words.specs.Sizes.{places, spaceOf}
-use Rattle.words.proofs.PlaceLaws.{run-space}
+use Rattle.words.specs.Sizes.{object, objectOrder, pageOrder, spaces, selectors, start, stride, places, spaceOf}
+use Rattle.words.proofs.PlaceLaws.{start-rises, from-start, before-end}
 use Rattle.interface.specs.Places.{capAt}
 use Rattle.interface.specs.Effects.{below}
 use Rattle.interface.proofs.Basics.BoolLaws.{cases, not-both}
@@ -123,10 +122,18 @@ pub marking-at : {table : List ℕ} {first size walked place : ℕ} {known marks
     Marking table first size place known marks
 marking-at e so-far = rw e so-far
 
--- the places of a word of marks are of one space
-pub word-space : (from p : ℕ) → from % wordBits ≡ 0 → from ≤ p → p < from + wordBits → spaceOf p ≡ spaceOf from
-word-space from p whole low high =
-    let i = p - from in
-    let there : p ≡ from + i = omega arith in
-    rw there
-    (run-space wordBits from i (dvd-of-mod-eq-zero wordBits refl) (dvd-of-mod-eq-zero wordBits refl) (dvd-of-mod-eq-zero wordBits whole) (omega arith))
+-- the places of a domain before a space, and those after it, are of other spaces
+module _ (domain space p : ℕ) (small : space < spaces) (same : spaceOf p ≡ space) where
+  pub not-before : domain * stride ≤ p → p < domain * stride + start space → ⊥
+  not-before low high = omega (arith, start-rises space spaces small, rw same at (from-start p))
+
+  pub not-after : domain * stride + start space + selectors space ≤ p → p < (domain + 1) * stride → ⊥
+  not-after low high = omega (arith, rw same at (before-end p))
+
+-- a space has as many places as some words have marks
+pub whole-words : (space : ℕ) → selectors space % wordBits ≡ 0
+whole-words space = go (eqb space object)
+  where
+    go : (there : Bool) → 2 ^ cond there objectOrder pageOrder % wordBits ≡ 0
+    go true = refl
+    go false = refl

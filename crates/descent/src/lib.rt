@@ -1,6 +1,6 @@
 // Which places descend from some places, by walks along parent links: the nearest ancestor among them, and the marks of all their strict descendants.
 ghost use mathlib.Core.Path.{_≡_};
-ghost use Prim.Native.Nat.{ℕ, _+_, _<_, _≤_};
+ghost use Prim.Native.Nat.{ℕ, _+_, _%_, _<_, _≤_};
 ghost use mathlib.Core.Bool.{false};
 ghost use lib.ListN.{length};
 ghost use Rattle.words.specs.Sizes.{places};
@@ -175,6 +175,26 @@ fn mark_word(
     }
 }
 
+// Marks the strict descendants among so many places from one on, word by word.
+fn mark_run(
+    table: &[u32],
+    marked: &mut [u32; MARK_WORDS],
+    known: &mut [u32; MARK_WORDS],
+    from: Place,
+    count: u32,
+    first: Place,
+    size: u32,
+)
+    requires { ⌜ Marking (now table) (first .0) size (from .0) (now known) (now marked) × (from .0 + count ≤ places) × (count % wordBits ≡ 0) ⌝ }
+    ensures { λ r. ⌜ Marking (now (table .entry)) (first .0) size (from .0 + count) (now (known .exit)) (now (marked .exit)) ⌝ }
+{
+    let mut offset = 0u32;
+    while offset < count {
+        mark_word(table, marked, known, from.after(offset), first, size);
+        offset += WORD_BITS;
+    }
+}
+
 // Marks the strict descendants of the places of a range, which are all of its space.
 pub fn mark_below(table: &[u32], first: Place, size: u32, marked: &mut [u32; MARK_WORDS])
     requires { ⌜ Sized (now table) × Linked (capAt (now table)) × InSpace (first .0) size ⌝ }
@@ -182,13 +202,13 @@ pub fn mark_below(table: &[u32], first: Place, size: u32, marked: &mut [u32; MAR
     ensures { λ r. ⌜ Marked (below (capAt (now (table .entry))) (first .0) size) (now (marked .exit)) × (length (now (marked .exit)) ≡ markWords) ⌝ }
 {
     let space = first.space();
+    let start = sizes::space_start(space);
+    let count = sizes::selectors(space);
     let mut known = marks::blank(table);
-    let mut walked = 0u32;
-    while walked < sizes::PLACES {
-        let from = Place::counted(walked);
-        walked += WORD_BITS;
-        if from.space() == space {
-            mark_word(table, marked, &mut known, from, first, size);
-        }
+    let mut domain = 0u32;
+    while domain < sizes::DOMAINS {
+        let from = Place::first_of(domain).after(start);
+        mark_run(table, marked, &mut known, from, count, first, size);
+        domain += 1;
     }
 }

@@ -67,8 +67,8 @@ fn rest_is_blank(table: &[u32], first: u32) -> bool
     true
 }
 
-// Whether the places of a group are null, all words of them. A group that begins with a live place is told by that place alone.
-fn is_null_group(table: &[u32], first: u32) -> bool
+// Whether all words of a group's places are 0. A group that begins with a live place is told by that place alone.
+fn group_is_blank(table: &[u32], first: u32) -> bool
     requires { ⌜ (length (now table) ≡ placeTableWords) × (first + group ≤ places) ⌝ }
     ensures { λ r. ⌜ r ≡ blank (now (table .entry)) first group ⌝ }
 {
@@ -83,7 +83,7 @@ fn group_keeps(table: &[u32], objects: &[u32], first: u32) -> bool
     requires { ⌜ Passed (tables (now table) (now objects)) first × (first < places) ⌝ }
     ensures { λ r. ⌜ r ≡ allBelow (first + group) (quickKeeps (view (now (table .entry)) (now (objects .entry)))) ⌝ }
 {
-    if is_null_group(table, first) {
+    if group_is_blank(table, first) {
         return true;
     }
     let extent = place_rules::extent_of(place_rules::space_of(first));

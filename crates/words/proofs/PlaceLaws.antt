@@ -32,6 +32,13 @@ inside : (place : ℕ) → Inside (place % stride) (spaceOf place)
 unfolding spaceOf
 inside place = found (place % stride) (omega arith) (ltb (place % stride) (start io)) (ltb (place % stride) (start object)) refl refl
 
+-- so a place lies in its space, counted from the first of its domain
+pub from-start : (place : ℕ) → start (spaceOf place) ≤ place % stride
+from-start place = inside place .from
+
+pub before-end : (place : ℕ) → place % stride < start (spaceOf place) + selectors (spaceOf place)
+before-end place = inside place .below
+
 -- of two spaces that hold the same, neither is the later one
 not-later : (rest space other : ℕ) → Inside rest space → Inside rest other → space ≤ other
 not-later rest space other a b =

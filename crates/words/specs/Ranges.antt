@@ -25,7 +25,7 @@ pub record AlignmentFact : Type 0 where
   pub aligned-zeros : (width order base : ℕ) → order ≤ width → (aligned order base ≡ true) ↔ (order ≤ trailingZeros width base)
   pub zero-aligned : (order : ℕ) → aligned order 0 ≡ true
 
--- The range fact: a range that is aligned, of an order up to the greatest, and begins below 2 ^ greatest lies below that, whatever the two orders; and so a range of a space lies in it
+-- The range fact: a range that is aligned, of an order up to the greatest, and begins below 2 ^ greatest lies below that, whatever the two orders; and that is so of each space
 pub record RangeFact : Type 0 where
   pub stays-inside : (greatest order base offset : ℕ) → order ≤ greatest → aligned order base ≡ true → base < 2 ^ greatest → offset < 2 ^ order →
       base + offset < 2 ^ greatest

@@ -276,7 +276,6 @@ fn rule_11_live_places() {
     place_breaks(spare, [1, 3, 0, 0], 11);
     place_breaks(place(2, IO, 9), [1, 1, 0, 0], 11);
     // A parent out of range, null, of another space or resource, itself.
-    place_breaks(spare, [1, 3, 1537, 2], 11);
     place_breaks(spare, [1, 3, PLACES, 2], 11);
     place_breaks(spare, [1, 3, PLACES + 1, 2], 11);
     place_breaks(spare, [1, 3, u32::MAX, 2], 11);
@@ -297,8 +296,8 @@ fn rule_11_live_places() {
     breaks(&world, 11, Location::Place(place(2, MEMORY, 1)));
 }
 
-/// By space: resource 4 of domain 0 with all permissions, at the root's selectors from one on
-/// in a line of so many places, each from the one before it.
+/// Resource 4 of a space of domain 0, lent with all permissions through so many of the root's
+/// selectors in turn.
 fn line(space: u32, places: u32) -> World {
     let (first, permissions) = [(0, 7), (0, 1), (100, 3)][space as usize];
     let mut world = World::listed();

@@ -298,25 +298,6 @@ fn lookups_after_boot() {
     world.refuses(LOOKUP, ROOT_EC, &[1155], Status::BadPar);
 }
 
-#[test]
-fn a_lookup_finds_the_whole_run() {
-    let mut world = World::partners();
-    let item = range(MEMORY, 0, 3, 31);
-    assert_eq!(
-        world.gives(
-            TO_ROOT_2,
-            item,
-            range(MEMORY, 8, 3, 0),
-            hot(0) | FROM_HYPERVISOR
-        ),
-        8
-    );
-    assert_eq!(
-        world.does(LOOKUP, ROOT_EC, &[range(MEMORY, 10, 0, 0)]),
-        33_181
-    );
-}
-
 /// A block of these words, and 0 in all others.
 fn block(words: &[(usize, u32)]) -> [u32; 64] {
     let mut block = [0; 64];

@@ -278,12 +278,12 @@ impl Features {
             let at = 65 - 2 * count as usize;
             let second = record.source[at - 1];
             let delegates = second & 1 == 1;
-            let words = (record.source[at], part.target[1 + second as usize % 2]);
+            let (item, window) = (record.source[at], part.target[1 + usize::from(delegates)]);
             self.object_uses
-                .received(words.0, words.1, delegates, part.target[at]);
-            let item = range(words.0);
+                .received(item, window, delegates, part.target[at]);
+            let item = range(item);
             let window =
-                range(words.1).filter(|window| item.is_some_and(|item| item.space == window.space));
+                range(window).filter(|window| item.is_some_and(|item| item.space == window.space));
             if let (Some(item), Some(window)) = (item, window) {
                 let transfer = Transfer {
                     sender,

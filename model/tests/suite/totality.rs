@@ -3,9 +3,10 @@
 use model::generator::{self, Kind};
 use model::journal::{self, Machine, Record, Replay, Step};
 use model::random::Random;
+use model::tables::Space;
 use model::{Hypercall, Status};
 
-use crate::world::{PLACES, SELECTORS};
+use crate::world::PLACES;
 
 fn words(random: &mut Random, length: usize) -> Vec<u32> {
     let shift = random.below(32);
@@ -87,8 +88,12 @@ fn try_call(machine: &mut Machine, random: &mut Random, refused: &mut [u32; 20])
     for word in &mut arguments {
         *word = match random.below(4) {
             0 => random.below(4),
-            1 => random.below(SELECTORS[2]),
-            2 => random.below(SELECTORS[2]) << 12 | random.below(9) << 7 | random.below(128),
+            1 => random.below(Space::Object.selectors()),
+            2 => {
+                random.below(Space::Object.selectors()) << 12
+                    | random.below(9) << 7
+                    | random.below(128)
+            }
             _ => random.word() >> random.below(32),
         };
     }

@@ -5,10 +5,11 @@ use std::collections::BTreeMap;
 use std::fmt::Debug;
 
 use model::boot::{ROOT_EC, ROOT_SC};
-use model::generator::{journal, Kind};
+use model::generator::{journal, Kind, EC_SELECTOR, PD_SELECTOR, PT_SELECTOR};
 use model::journal::Record;
 use model::layout::{DEPTH_LIMIT, DOMAIN_PLACES, SELECTORS, SPACE_START};
 use model::random::Random;
+use model::tables::Space;
 use model::{Hypercall, Status};
 use rudozhev::words::{
     self, BLOCK_WORDS, OBJECT_WORDS, PLACES, PLACE_WIDTH, PLACE_WORDS, RECORD_WIDTH,
@@ -21,6 +22,18 @@ pub struct Words {
     pub places: Vec<u32>,
     pub objects: Vec<u32>,
 }
+
+/// Object selectors where boot, and then the generator's journals, put PDs, ECs and portals.
+const SETTLED: [u32; 8] = [
+    32,
+    33,
+    PD_SELECTOR,
+    PD_SELECTOR + 1,
+    EC_SELECTOR - 1,
+    EC_SELECTOR,
+    PT_SELECTOR,
+    PT_SELECTOR + 1,
+];
 
 /// What the proved functions and the model do not agree on.
 pub type Difference = String;
@@ -219,9 +232,8 @@ impl Comparison {
         let arguments = std::array::from_fn(|_| match self.random.below(8) {
             0 => self.word(),
             1 | 2 => self.descriptor(),
-            3 | 4 => self.random.below(2 * SELECTORS[2]),
-            // Where the generator's journals put PDs, ECs and portals.
-            _ => self.random.pick(&[32, 33, 35, 36, 41, 42, 48, 49]).unwrap_or(0),
+            3 | 4 => self.random.below(2 * Space::Object.selectors()),
+            _ => self.random.pick(&SETTLED).unwrap_or(0),
         });
         let source = self.block();
         let mut target = self.block();
@@ -400,7 +412,7 @@ impl Comparison {
             0 => words[at] = words[at].wrapping_add(1),
             1 => words[at] = words[at].wrapping_sub(1),
             2 => words[at] ^= 1 << self.random.below(32),
-            3 => words[at] = self.random.below(SELECTORS[2] + 4),
+            3 => words[at] = self.random.below(Space::Object.selectors() + 4),
             4 => words[at] = self.word(),
             5 => words.swap(at, other + self.random.below(width as u32) as usize),
             6 => (0..width).for_each(|word| words.swap(row + word, other + word)),
@@ -434,7 +446,7 @@ impl Comparison {
                 row.fill(0);
             }
         }
-        let page = self.random.below(SELECTORS[0]);
+        let page = self.random.below(Space::Memory.selectors());
         for depth in 1..DEPTH_LIMIT - 1 + self.random.below(4) {
             let place = DOMAIN_PLACES - 1 + depth;
             let parent = if depth == 1 { page } else { place - 1 };

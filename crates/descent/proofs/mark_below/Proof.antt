@@ -1,85 +1,105 @@
--- The places before the loop's number are marked; words of other spaces are passed over.
-use Prim.Native.Nat.{_-_, _%_, _≤_}
-use mathlib.Core.Path.{_≡_, sym, _∙_}
+-- The places of the domains before the loop's are marked; in each, those of other spaces are passed over.
+use Prim.Native.Nat.{_-_, _*_, _≤_}
+use mathlib.Core.Path.{ap, _∙_}
 use native.Mathlib.Omega.{arith}
-use Rattle.words.specs.Sizes.{places}
-use Rattle.marks.specs.PlaceBits.{wordBits}
+use lib.Pow.{pow-pos}
+use Rattle.words.specs.Sizes.{domains, greatestOrder, selectors, start, stride, spaceOf}
+use Rattle.words.proofs.PlaceLaws.{space-small, start-rises}
 use Rattle.descent.specs.Walks.{Marking}
-use Rattle.descent.proofs.MarkLaws.{begun, passed, all-told, marking-at, word-space}
+use Rattle.descent.proofs.MarkLaws.{begun, passed, all-told, not-before, not-after, whole-words}
 use Rattle.descent.proofs.UnmarkedLaws.{not-below}
 use borrow.Author.Needs.{needs}
 use Rattle.descent.proofs.mark_below.Statement.{statement}
 use Rattle.descent.proofs.mark_below.Tie as tie
 
 abbrev Inv-loop : tie.InvT-loop
-Inv-loop table first size marked₀ space known₀ walked₀ marked known walked =
-    (walked ≤ places) × (walked % wordBits ≡ 0) × Marking table (first .0) size walked known marked
+Inv-loop table first size marked₀ space start count known₀ domain₀ marked known domain =
+    (domain ≤ domains) × Marking table (first .0) size (domain * stride) known marked
 
 abbrev μ-loop : tie.MeasureT-loop
-μ-loop table first size marked₀ space known₀ walked₀ marked known walked = places - walked
+μ-loop table first size marked₀ space start count known₀ domain₀ marked known domain = domains - domain
 
 space-requires : tie.Need-space-requires Inv-loop μ-loop
 space-requires c κs = search needs
+
+space-start-requires : tie.Need-space-start-requires Inv-loop μ-loop
+space-start-requires c κs = rw (c .space .ensures) (space-small _)
+
+selectors-requires : tie.Need-selectors-requires Inv-loop μ-loop
+selectors-requires c κs = search needs
 
 blank-requires : tie.Need-blank-requires Inv-loop μ-loop
 blank-requires c κs = search needs
 
 loop-holds : tie.Need-loop-holds Inv-loop μ-loop
 loop-holds c =
-    let start = c .before .before .before in (
-      omega arith,
+    let start = c .before .before .before .before .before in (
       omega arith,
       begun (start .pre .0 .0) (start .pre .0 .1) (start .pre .0 .2 .ends) (c .blank .ensures .0) (start .pre .1 .0) (c .blank .ensures .1) (start .pre .1 .1),
     )
 
-counted-requires : tie.Need-counted-requires Inv-loop μ-loop
-counted-requires c κs = search needs
+first-of-requires : tie.Need-first-of-requires Inv-loop μ-loop
+first-of-requires c κs = search needs
 
-add-walked : tie.Need-add-walked Inv-loop μ-loop
-add-walked c = search needs
+after-requires : tie.Need-after-requires Inv-loop μ-loop
+after-requires c κs =
+    let space-start = c .before .before .before .before .before in
+    let space = space-start .before in
+    let from = space .before .before .args .first .0 in
+    omega (
+      arith,
+      c .first-of .ensures,
+      space-start .space-start .ensures ∙ ap start (space .space .ensures),
+      start-rises (spaceOf from) _ (space-small from),
+      pow-pos (greatestOrder (spaceOf from)),
+    )
 
-space-requires-2 : tie.Need-space-requires-2 Inv-loop μ-loop
-space-requires-2 c κs = search needs
+mark-run-requires : tie.Need-mark-run-requires Inv-loop μ-loop
+mark-run-requires c κs =
+    let after = c .before .before in
+    let loop = after .before .before .before in
+    let selectors-of = loop .before .before in
+    let space = selectors-of .before .before in
+    let entry = space .before .before in
+    let from = entry .args .first .0 in
+    let begins = selectors-of .before .space-start .ensures ∙ ap start (space .space .ensures) in
+    let many = selectors-of .selectors .ensures ∙ ap selectors (space .space .ensures) in (
+      passed (loop .loop .inv .1) _ (omega (arith, after .after .ensures, after .before .first-of .ensures))
+          (λ p low high.
+          not-below _ (entry .pre .0 .1) (entry .pre .0 .2) p
+          (omega (arith, after .after .ensures, after .before .first-of .ensures, begins, start-rises (spaceOf from) _ (space-small from)))
+          (λ same. not-before (loop .loop .domain) (spaceOf from) p (space-small from) same low (omega (arith, after .after .ensures, after .before .first-of .ensures, begins)))),
+      omega (arith, after .after .ensures, after .before .first-of .ensures, begins, many, start-rises (spaceOf from) _ (space-small from)),
+      rw many (whole-words (spaceOf from)),
+    )
 
-mark-word-requires : tie.Need-mark-word-requires Inv-loop μ-loop
-mark-word-requires c κs =
-    let counted = c .before .before .before .before in
-    let loop = counted .before .before in
-    (marking-at (counted .counted .ensures) (loop .loop .inv .2), omega (arith, counted .counted .ensures, loop .loop .inv .1))
+add-domain : tie.Need-add-domain Inv-loop μ-loop
+add-domain c = search needs
 
 loop-less : tie.Need-loop-less Inv-loop μ-loop
 loop-less c = search needs
 
 loop-again : tie.Need-loop-again Inv-loop μ-loop
 loop-again c =
-    let counted = c .before .before .before .before .before in
-    let loop = counted .before .before in
-    (omega (arith, loop .loop .inv .1), omega (arith, loop .loop .inv .1), rw (counted .counted .ensures) at (c .mark-word .ensures))
-
-loop-less-2 : tie.Need-loop-less-2 Inv-loop μ-loop
-loop-less-2 c = search needs
-
-loop-again-2 : tie.Need-loop-again-2 Inv-loop μ-loop
-loop-again-2 c =
-    let space2 = c .before in
-    let counted = space2 .before in
-    let loop = counted .before .before in
-    let space = loop .before .before in
-    let start = space .before .before in (
-      omega (arith, loop .loop .inv .1),
-      omega (arith, loop .loop .inv .1),
-      passed (loop .loop .inv .2) _ (omega arith)
+    let after = c .before .before .before in
+    let loop = after .before .before .before in
+    let selectors-of = loop .before .before in
+    let space = selectors-of .before .before in
+    let entry = space .before .before in
+    let from = entry .args .first .0 in
+    let begins = selectors-of .before .space-start .ensures ∙ ap start (space .space .ensures) in
+    let many = selectors-of .selectors .ensures ∙ ap selectors (space .space .ensures) in (
+      omega arith,
+      passed (c .mark-run .ensures) _ (omega (arith, after .after .ensures, after .before .first-of .ensures, begins, many, start-rises (spaceOf from) _ (space-small from)))
           (λ p low high.
-          not-below _ (start .pre .0 .1) (start .pre .0 .2) p (omega (arith, loop .loop .inv .1))
-          (λ same.
-          c .if1 .left
-          (rw (counted .counted .ensures) at (space2 .space2 .ensures) ∙ sym (word-space _ p (loop .loop .inv .1) low high) ∙ same ∙ sym (space .space .ensures)))),
+          not-below _ (entry .pre .0 .1) (entry .pre .0 .2) p (omega arith)
+          (λ same. not-after (loop .loop .domain) (spaceOf from) p (space-small from) same (omega (arith, after .after .ensures, after .before .first-of .ensures, begins, many)) high)),
     )
 
 returns : tie.Need-returns Inv-loop μ-loop
 returns c =
     let loop = c .before in
-    (all-told (loop .loop .inv .2) (omega (arith, loop .loop .inv .0)), loop .loop .inv .2 .all-marks)
+    (all-told (loop .loop .inv .1) (omega (arith, loop .loop .inv .0)), loop .loop .inv .1 .all-marks)
 
 pub mark-below-spec : {M : Type 1} → statement M
 mark-below-spec =
@@ -88,14 +108,14 @@ mark-below-spec =
     Inv-loop
     μ-loop
     space-requires
+    space-start-requires
+    selectors-requires
     blank-requires
     loop-holds
-    counted-requires
-    add-walked
-    space-requires-2
-    mark-word-requires
+    first-of-requires
+    after-requires
+    mark-run-requires
+    add-domain
     loop-less
     loop-again
-    loop-less-2
-    loop-again-2
     returns)

@@ -21,13 +21,13 @@ Inv-loop table objects first extent end at₀ at = (first ≤ at) × (at ≤ fir
 abbrev μ-loop : tie.MeasureT-loop
 μ-loop table objects first extent end at₀ at = end - at
 
-is-null-group-requires : tie.Need-is-null-group-requires Inv-loop μ-loop
-is-null-group-requires c κs = let start = c .before .before in (start .pre .0 .places-long, omega (arith, start .pre .0 .aligned))
+group-is-blank-requires : tie.Need-group-is-blank-requires Inv-loop μ-loop
+group-is-blank-requires c κs = let start = c .before .before in (start .pre .0 .places-long, omega (arith, start .pre .0 .aligned))
 
 returns : tie.Need-returns Inv-loop μ-loop
 returns c =
     let before = c .before .before .before .before .pre .0 in
-    sym (blank-keeps _ _ group (before .past-hypervisor) (before .passed) (sym (c .before .is-null-group .ensures) ∙ c .if1 .taken))
+    sym (blank-keeps _ _ group (before .past-hypervisor) (before .passed) (sym (c .before .group-is-blank .ensures) ∙ c .if1 .taken))
 
 space-of-requires : tie.Need-space-of-requires Inv-loop μ-loop
 space-of-requires c κs = search needs
@@ -73,7 +73,7 @@ group-keeps-spec =
     (tie.spec
     Inv-loop
     μ-loop
-    is-null-group-requires
+    group-is-blank-requires
     returns
     space-of-requires
     extent-of-requires

@@ -1,8 +1,8 @@
--- A group whose first place has a permission is not null.
+-- A group whose first place has a permission is not blank.
 use Rattle.place_pass.proofs.QuickLaws.{live-not-blank}
 use borrow.Author.Needs.{needs}
-use Rattle.place_pass.proofs.is_null_group.Statement.{statement}
-use Rattle.place_pass.proofs.is_null_group.Tie as tie
+use Rattle.place_pass.proofs.group_is_blank.Statement.{statement}
+use Rattle.place_pass.proofs.group_is_blank.Tie as tie
 
 cap-at-requires : tie.Need-cap-at-requires
 cap-at-requires c κs = search needs
@@ -16,5 +16,5 @@ is-blank-requires c κs = search needs
 returns-2 : tie.Need-returns-2
 returns-2 c = search needs
 
-pub is-null-group-spec : {M : Type 1} → statement M
-is-null-group-spec = tie.close (tie.spec cap-at-requires returns is-blank-requires returns-2)
+pub group-is-blank-spec : {M : Type 1} → statement M
+group-is-blank-spec = tie.close (tie.spec cap-at-requires returns is-blank-requires returns-2)
