@@ -4,7 +4,7 @@
 use crate::boot::{BOOT_HYPERVISOR, BOOT_OBJECTS, HYPERVISOR_PLACES, ROOT_PD, ROOT_SC};
 use crate::layout::{
     CPUS, DEPTH_LIMIT, DOMAINS, DOMAIN_PLACES, FRAMES, OBJECTS, OBJECT_WIDTH, PLACES,
-    PRIORITY_LIMIT, QUANTUM_LIMIT, SPACE_START,
+    PRIORITY_LIMIT, QUANTUM_LIMIT, SELECTORS, SPACES, SPACE_START,
 };
 use crate::tables::{
     object_table, place_table, ObjectKind, ObjectRow, ObjectTable, Place, PlaceRow, PlaceTable,
@@ -297,11 +297,12 @@ const GROUP: usize = 8;
 /// Rules 10 to 12, and 11's tie to the objects, for the domains above 0.
 fn places_are_sound(places: &PlaceTable, facts: &ObjectFacts) -> bool {
     const {
-        assert!(
-            GROUP.is_power_of_two() && GROUP <= 64,
-            "spaces have whole groups"
-        )
-    };
+        let mut space = 0;
+        while space < SPACES {
+            assert!((SELECTORS[space] as usize).is_multiple_of(GROUP));
+            space += 1;
+        }
+    }
     for domain in 1..DOMAINS {
         for space in Space::ALL {
             let start = (domain * DOMAIN_PLACES + SPACE_START[space as usize]) as usize;

@@ -122,7 +122,7 @@ pub const PD_SELECTOR: u32 = 35;
 pub const EC_SELECTOR: u32 = 42;
 pub const PT_SELECTOR: u32 = 200;
 const PT_ORDER: u32 = 3;
-const ROOT_SECOND_EC: u32 = 41;
+pub const ROOT_SECOND_EC: u32 = 41;
 
 /// The kinds of objects; all but the first can be had in any number.
 const OBJECT_KINDS: [ObjectKind; 5] = [

@@ -163,7 +163,7 @@ objectsTaken =
     record {
       caps =
           λ place.
-          if leb 704 place && ltb place 720 then record { resource = place - 704; permissions = 1; parent = place - 575; depth = 1 } else
+          if leb 704 place && ltb place 720 then record { resource = place - 704; permissions = 1; parent = place - 704 + 129; depth = 1 } else
           boot .caps place;
       objects = boot .objects;
     }

@@ -5,7 +5,7 @@ use std::collections::BTreeMap;
 use std::fmt::Debug;
 
 use model::boot::{ROOT_EC, ROOT_SC};
-use model::generator::{journal, Kind, EC_SELECTOR, PD_SELECTOR, PT_SELECTOR};
+use model::generator::{journal, Kind, EC_SELECTOR, PD_SELECTOR, PT_SELECTOR, ROOT_SECOND_EC};
 use model::journal::Record;
 use model::layout::{DEPTH_LIMIT, DOMAIN_PLACES, SELECTORS, SPACE_START};
 use model::random::Random;
@@ -29,7 +29,7 @@ const SETTLED: [u32; 8] = [
     33,
     PD_SELECTOR,
     PD_SELECTOR + 1,
-    EC_SELECTOR - 1,
+    ROOT_SECOND_EC,
     EC_SELECTOR,
     PT_SELECTOR,
     PT_SELECTOR + 1,

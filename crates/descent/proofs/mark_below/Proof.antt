@@ -1,6 +1,6 @@
 -- The places of the domains before the loop's are marked; in each, those of other spaces are passed over.
-use Prim.Native.Nat.{_-_, _*_, _≤_}
-use mathlib.Core.Path.{ap, _∙_}
+use Prim.Native.Nat.{_+_, _-_, _*_, _≤_}
+use mathlib.Core.Path.{_≡_, ap, _∙_}
 use native.Mathlib.Omega.{arith}
 use lib.Pow.{pow-pos}
 use Rattle.words.specs.Sizes.{domains, greatestOrder, selectors, start, stride, spaceOf}
@@ -54,22 +54,31 @@ after-requires c κs =
       pow-pos (greatestOrder (spaceOf from)),
     )
 
+-- where the places of the range's space begin in the loop's domain, and how many they are
+there : (after : tie.After-after Inv-loop μ-loop) →
+    let loop = after .before .before .before in
+    let space = spaceOf (loop .before .before .before .before .before .before .args .first .0) in
+    (after .after .result .0 ≡ loop .loop .domain * stride + start space) × (loop .before .before .selectors .result ≡ selectors space)
+there after =
+    let loop = after .before .before .before in
+    let of-space = loop .before .before .before .before .space .ensures in
+    let begins = loop .before .before .before .space-start .ensures ∙ ap start of-space in (
+      omega (arith, after .after .ensures, after .before .first-of .ensures, begins),
+      loop .before .before .selectors .ensures ∙ ap selectors of-space,
+    )
+
 mark-run-requires : tie.Need-mark-run-requires Inv-loop μ-loop
 mark-run-requires c κs =
-    let after = c .before .before in
-    let loop = after .before .before .before in
-    let selectors-of = loop .before .before in
-    let space = selectors-of .before .before in
-    let entry = space .before .before in
+    let (begins, many) = there (c .before .before) in
+    let loop = c .before .before .before .before .before in
+    let entry = loop .before .before .before .before .before .before in
     let from = entry .args .first .0 in
-    let begins = selectors-of .before .space-start .ensures ∙ ap start (space .space .ensures) in
-    let many = selectors-of .selectors .ensures ∙ ap selectors (space .space .ensures) in (
-      passed (loop .loop .inv .1) _ (omega (arith, after .after .ensures, after .before .first-of .ensures))
+    let fits = start-rises (spaceOf from) _ (space-small from) in (
+      passed (loop .loop .inv .1) _ (omega (arith, begins))
           (λ p low high.
-          not-below _ (entry .pre .0 .1) (entry .pre .0 .2) p
-          (omega (arith, after .after .ensures, after .before .first-of .ensures, begins, start-rises (spaceOf from) _ (space-small from)))
-          (λ same. not-before (loop .loop .domain) (spaceOf from) p (space-small from) same low (omega (arith, after .after .ensures, after .before .first-of .ensures, begins)))),
-      omega (arith, after .after .ensures, after .before .first-of .ensures, begins, many, start-rises (spaceOf from) _ (space-small from)),
+          not-below _ (entry .pre .0 .1) (entry .pre .0 .2) p (omega (arith, begins, fits))
+          (λ same. not-before (loop .loop .domain) (spaceOf from) p (space-small from) same low (omega (arith, begins)))),
+      omega (arith, begins, many, fits),
       rw many (whole-words (spaceOf from)),
     )
 
@@ -81,19 +90,15 @@ loop-less c = search needs
 
 loop-again : tie.Need-loop-again Inv-loop μ-loop
 loop-again c =
-    let after = c .before .before .before in
-    let loop = after .before .before .before in
-    let selectors-of = loop .before .before in
-    let space = selectors-of .before .before in
-    let entry = space .before .before in
-    let from = entry .args .first .0 in
-    let begins = selectors-of .before .space-start .ensures ∙ ap start (space .space .ensures) in
-    let many = selectors-of .selectors .ensures ∙ ap selectors (space .space .ensures) in (
+    let (begins, many) = there (c .before .before .before) in
+    let loop = c .before .before .before .before .before .before in
+    let entry = loop .before .before .before .before .before .before in
+    let from = entry .args .first .0 in (
       omega arith,
-      passed (c .mark-run .ensures) _ (omega (arith, after .after .ensures, after .before .first-of .ensures, begins, many, start-rises (spaceOf from) _ (space-small from)))
+      passed (c .mark-run .ensures) _ (omega (arith, begins, many, start-rises (spaceOf from) _ (space-small from)))
           (λ p low high.
           not-below _ (entry .pre .0 .1) (entry .pre .0 .2) p (omega arith)
-          (λ same. not-after (loop .loop .domain) (spaceOf from) p (space-small from) same (omega (arith, after .after .ensures, after .before .first-of .ensures, begins, many)) high)),
+          (λ same. not-after (loop .loop .domain) (spaceOf from) p (space-small from) same (omega (arith, begins, many)) high)),
     )
 
 returns : tie.Need-returns Inv-loop μ-loop
