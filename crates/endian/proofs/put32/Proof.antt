@@ -1,0 +1,42 @@
+-- The low half and the high half, one written after the other.
+use mathlib.Core.Path.{_∙_}
+use denote.Ref.{now}
+use Rattle.endian.proofs.NumberLaws.{written-add}
+use borrow.Author.Needs.{needs}
+use Rattle.endian.proofs.put32.Statement.{statement}
+use Rattle.endian.proofs.put32.Tie as tie
+
+cast-put16 : tie.Need-cast-put16
+cast-put16 c = search needs
+
+put16-requires : tie.Need-put16-requires
+put16-requires c κs = search needs
+
+add-put16 : tie.Need-add-put16
+add-put16 c = search needs
+
+cast-put16-2 : tie.Need-cast-put16-2
+cast-put16-2 c = search needs
+
+put16-requires-2 : tie.Need-put16-requires-2
+put16-requires-2 c κs = search needs
+
+same-length : tie.Need-same-length
+same-length c = search needs
+
+returns : tie.Need-returns
+returns c = let start = c .before .before .before .before .before .before .before .before .before in
+    let low = c .before .before .before .before .before .before .put16 in
+    c .before .before .put162 .ensures ∙ (rw (low .ensures) (written-add (now (start .args .buffer)) (start .args .at) 2 2 (start .args .number) (start .pre)))
+
+pub put32-spec : {M : Type 1} → statement M
+put32-spec =
+    tie.close
+    (tie.spec
+    cast-put16
+    put16-requires
+    add-put16
+    cast-put16-2
+    put16-requires-2
+    same-length
+    returns)
