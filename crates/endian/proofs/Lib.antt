@@ -1,3 +1,4 @@
 -- The laws that other crates cite.
 pub mod PartLaws
 pub mod NumberLaws
+pub mod SignedLaws

@@ -5,6 +5,8 @@ ghost use Prim.Native.Nat.{_+_, _≤_};
 ghost use mathlib.Core.Path.{_≡_};
 ghost use mathlib.Core.List.{[], _∷_};
 ghost use lib.ListN.{length};
+ghost use mir.Syntax.{w32};
+ghost use mir.Val.{ofZ, toZ};
 ghost use Rattle.endian.specs.Parts.{written};
 ghost use Rattle.endian.specs.Numbers.{little, bytesOf, numberAt};
 
@@ -71,4 +73,36 @@ pub fn put64(buffer: &mut [u8], at: usize, number: u64)
 {
     put32(buffer, at, (number % 4294967296) as u32);
     put32(buffer, at + 4, (number / 4294967296) as u32);
+}
+
+// The signed number that 32 bits are in two's complement.
+pub fn to_signed(bits: u32) -> i32
+    ensures { λ r. ⌜ r ≡ toZ w32 bits ⌝ }
+{
+    if bits < 2147483648 {
+        return bits as i32;
+    }
+    -1 - ((4294967295 - bits) as i32)
+}
+
+// The 32 bits of a signed number in two's complement.
+pub fn to_bits(number: i32) -> u32
+    ensures { λ r. ⌜ r ≡ ofZ w32 number ⌝ }
+{
+    if 0 <= number {
+        return number as u32;
+    }
+    4294967295 - ((-1 - number) as u32)
+}
+
+// Copies bytes into a buffer from a place on.
+pub fn put_bytes(buffer: &mut [u8], at: usize, bytes: &[u8])
+    requires { ⌜ at + length (now bytes) ≤ length (now buffer) ⌝ }
+    ensures { λ r. ⌜ now (buffer .exit) ≡ written (now (buffer .entry)) at (now (bytes .entry)) ⌝ }
+{
+    let mut i: usize = 0;
+    while i < bytes.len() {
+        buffer[at + i] = bytes[i];
+        i += 1;
+    }
 }
