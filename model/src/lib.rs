@@ -1,6 +1,6 @@
 //! An independent model of the hypervisor's capability interface: boot, the
-//! hypercalls, the census and the replay of journals, as the interface manual
-//! (docs/INTERFACE.md) states them.
+//! hypercalls, the census, the replay of journals and the information page, as
+//! the interface manual (docs/INTERFACE.md) states them.
 //!
 //! Tables, blocks and lists are lent as slices of words. Every function
 //! accepts any length and any content, and a refused call changes no word.
@@ -12,9 +12,11 @@ pub mod damage;
 pub mod descent;
 pub mod descriptor;
 pub mod generator;
+pub mod hip;
 pub mod journal;
 pub mod layout;
 pub mod message;
+pub mod page_generator;
 pub mod random;
 pub mod status;
 pub mod stored;

@@ -6,6 +6,7 @@ mod damage;
 mod examples;
 mod generator;
 mod history;
+mod information_page;
 mod journals;
 mod messages;
 mod object_uses;

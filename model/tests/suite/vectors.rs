@@ -13,8 +13,9 @@ fn vectors() -> Vec<(String, Vec<u8>, String)> {
     let directory = Path::new(env!("CARGO_MANIFEST_DIR")).join("tests/vectors");
     let files = fs::read_dir(directory).expect("the traces are part of the crate");
     files
-        .map(|entry| {
-            let path = entry.expect("a readable directory").path();
+        .map(|entry| entry.expect("a readable directory").path())
+        .filter(|path| path.extension().is_some_and(|ending| ending == "trace"))
+        .map(|path| {
             let name = path.file_stem().and_then(|name| name.to_str());
             let name = name.expect("a plain name").to_string();
             let journal = fs::read(replay_file(&format!("data/{name}.journal")));
