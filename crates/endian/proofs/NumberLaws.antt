@@ -3,13 +3,14 @@ use Prim.Native.Nat.{ℕ, zero, suc, _+_, _*_, _/_, _%_, _^_, _≤_, _<_}
 use mathlib.Core.Path.{_≡_, refl, sym, ap, _∙_}
 use mathlib.Core.List.{List, [], _∷_, _++_}
 use native.Mathlib.Nat.{pow-suc, one-le-pow, div-div-eq-div-mul}
+use native.Mathlib.Numerals.{add-one}
 use native.Mathlib.Omega.{arith}
 use lib.Arith.{mod-mul}
 use lib.ListN.{length, take, drop, getD, set, length-set}
-use lib.Seq.{take-at, drop-at}
+use lib.Seq.{take-nil, drop-nil, take-at, drop-at}
 use Rattle.endian.specs.Parts.{AreBytes, part, written}
 use Rattle.endian.specs.Numbers.{little, bytesOf, numberAt}
-use Rattle.endian.proofs.PartLaws.{length-part, part-add, part-cons, part-four, part-bytes, written-then, byte-written}
+use Rattle.endian.proofs.PartLaws.{length-part, part-add, part-bytes, written-then, byte-written}
 
 -- a number has as many bytes as were asked for
 pub length-bytes : (width number : ℕ) → length (bytesOf width number) ≡ width
@@ -83,16 +84,27 @@ pub number-add : (bytes : List ℕ) (at low high : ℕ) → at + low ≤ length 
 unfolding numberAt
 number-add bytes at low high fits = rw (part-add bytes at low high, little-append, length-part bytes at low fits)
 
--- the number of two bytes at a place
-pub number-of-two : (bytes : List ℕ) (at r : ℕ) → at + 2 ≤ length bytes → r ≡ little (getD bytes at 0 ∷ getD bytes (at + 1) 0 ∷ []) → r ≡ numberAt bytes at 2
-unfolding numberAt
-number-of-two bytes at r fits e = rw (part-cons bytes at 1 (omega arith), part-cons bytes (at + 1) 0 (omega arith)) e
+-- the number at a place is that of the byte there, which is 0 past the end, and that of the bytes after it
+number-cons : (bytes : List ℕ) (at size : ℕ) → numberAt bytes at (suc size) ≡ getD bytes at 0 + 256 * numberAt bytes (at + 1) size
+unfolding little numberAt
+number-cons [] at size = rw (drop-nil at, drop-nil (at + 1), take-nil size)
+number-cons (byte ∷ bytes) zero size = refl
+number-cons (byte ∷ bytes) (suc at) size =
+    rw add-one (rw add-one at (number-cons bytes at size))
 
--- the number of four bytes at a place
-pub number-of-four : (bytes : List ℕ) (at r : ℕ) → at + 4 ≤ length bytes →
+-- the number of two bytes at a place; a byte past the end is 0
+pub number-of-two : (bytes : List ℕ) (at r : ℕ) → r ≡ little (getD bytes at 0 ∷ getD bytes (at + 1) 0 ∷ []) → r ≡ numberAt bytes at 2
+unfolding little numberAt
+number-of-two bytes at r e = rw (number-cons bytes at 1, number-cons bytes (at + 1) 0) e
+
+-- the number of four bytes at a place; a byte past the end is 0
+pub number-of-four : (bytes : List ℕ) (at r : ℕ) →
     r ≡ little (getD bytes at 0 ∷ getD bytes (at + 1) 0 ∷ getD bytes (at + 2) 0 ∷ getD bytes (at + 3) 0 ∷ []) → r ≡ numberAt bytes at 4
-unfolding numberAt
-number-of-four bytes at r fits e = rw (part-four bytes at fits) e
+unfolding little numberAt
+number-of-four bytes at r e =
+    let two : at + 1 + 1 ≡ at + 2 = omega arith in
+    let three : at + 2 + 1 ≡ at + 3 = omega arith in
+    rw (number-cons bytes at 3, number-cons bytes (at + 1) 2, two, number-cons bytes (at + 2) 1, three, number-cons bytes (at + 3) 0) e
 
 -- bytes written one after the other are one number written: its low part, then its high part
 pub written-add : (list : List ℕ) (at low high number : ℕ) → at + (low + high) ≤ length list →

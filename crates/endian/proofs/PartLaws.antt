@@ -35,7 +35,7 @@ pub part-add : (bytes : List ℕ) (at first second : ℕ) → part bytes at (fir
 part-add bytes at first second = take-add first second (drop at bytes) ∙ ap (λ (rest : List ℕ). part bytes at first ++ take second rest) (drop-drop first at bytes)
 
 -- a part begins with the byte at its place
-pub part-cons : (bytes : List ℕ) (at size : ℕ) → at < length bytes → part bytes at (suc size) ≡ getD bytes at 0 ∷ part bytes (at + 1) size
+part-cons : (bytes : List ℕ) (at size : ℕ) → at < length bytes → part bytes at (suc size) ≡ getD bytes at 0 ∷ part bytes (at + 1) size
 part-cons bytes at size inside = rw (drop-cons bytes at 0 inside, add-one)
 
 -- and is its four bytes where it has so many

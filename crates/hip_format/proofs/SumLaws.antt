@@ -13,7 +13,7 @@ use Rattle.hip_format.specs.Format.{wordSum}
 -- the number of two bytes at a place
 two-bytes : (bytes : List ℕ) (at : ℕ) → at + 2 ≤ length bytes → numberAt bytes at 2 ≡ getD bytes at 0 + 256 * getD bytes (at + 1) 0
 unfolding little
-two-bytes bytes at fits = sym (number-of-two bytes at (getD bytes at 0 + 256 * getD bytes (at + 1) 0) fits (omega arith))
+two-bytes bytes at fits = sym (number-of-two bytes at (getD bytes at 0 + 256 * getD bytes (at + 1) 0) (omega arith))
 
 -- the sum of the words from a place on is the word there and the sum of those after it
 pub sum-more : (bytes : List ℕ) (at : ℕ) → at + 1 < length bytes → wordSum (drop at bytes) ≡ numberAt bytes at 2 + wordSum (drop (at + 2) bytes)

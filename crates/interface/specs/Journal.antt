@@ -5,9 +5,10 @@ use mathlib.Core.List.{List, [], _∷_, _++_, map, flatten}
 use lib.Dec.{eqb, ltb}
 use lib.ListN.{length, take, drop}
 use Rattle.io.specs.Digits.{digits}
+use Rattle.endian.specs.Numbers.{numberAt}
 use Rattle.words.specs.Sizes.{blockWords}
 use Rattle.reply.specs.Replies.{statusOf, answerOf}
-use Rattle.interface.specs.Basics.{if_then_else_, word, listed}
+use Rattle.interface.specs.Basics.{if_then_else_, listed}
 use Rattle.interface.specs.Places.{Tables, tablesOf}
 use Rattle.interface.specs.Boot.{boot}
 use Rattle.interface.specs.Verdicts.{Call, CALL, CREATE-PD, CREATE-EC, CREATE-SC, CREATE-PT, CREATE-SM, REVOKE, LOOKUP, SM-CTRL}
@@ -29,9 +30,9 @@ bodyBytes kind =
     if eqb kind SM-CTRL then 12 else
     0
 
--- a body's word, little-endian: the caller first, then the call's words in order
+-- a body's word, of four bytes, little-endian: the caller first, then the call's words in order
 unfoldable pub bodyWord : List ℕ → ℕ → ℕ
-bodyWord body i = word body (4 * i) + word body (4 * i + 1) * 256 + word body (4 * i + 2) * 65536 + word body (4 * i + 3) * 16777216
+bodyWord body i = numberAt body (4 * i) 4
 
 -- the hypercall of a record; words past the body are 0. CALL's two blocks follow its portal selector (its other words are then those of the first block, and are not read)
 unfoldable pub recordedCall : ℕ → List ℕ → Call

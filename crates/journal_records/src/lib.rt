@@ -48,26 +48,19 @@ fn byte(bytes: &[u8], at: usize) -> u8
     0
 }
 
-// The word of four bytes, the lowest first.
-fn little_endian(lowest: u8, low: u8, high: u8, highest: u8) -> u32
-    ensures { λ r. ⌜ r ≡ lowest + low * 256 + high * 65536 + highest * 16777216 ⌝ }
-{
-    (lowest as u32) + (low as u32) * 256 + (high as u32) * 65536 + (highest as u32) * 16777216
-}
-
 // The first word of some bytes.
 fn first_word(bytes: &[u8]) -> u32
     ensures { λ r. ⌜ r ≡ bodyWord (now (bytes .entry)) 0 ⌝ }
 {
     if bytes.len() < WORD_BYTES {
-        return little_endian(
+        return endian::of_four(
             byte(bytes, 0),
             byte(bytes, 1),
             byte(bytes, 2),
             byte(bytes, 3),
         );
     }
-    little_endian(bytes[0], bytes[1], bytes[2], bytes[3])
+    endian::get32(bytes, 0)
 }
 
 // A word of a body: bytes past the body's end are 0.
@@ -89,7 +82,7 @@ fn whole_block(body: &[u8], from: usize, block: &mut [u32])
     let mut i: usize = 0;
     while i < sizes::BLOCK_WORDS {
         let at = WORD_BYTES * (from + i);
-        block[i] = little_endian(body[at], body[at + 1], body[at + 2], body[at + 3]);
+        block[i] = endian::get32(body, at);
         i += 1;
     }
 }

@@ -3,6 +3,7 @@ use Prim.Native.Nat.{ℕ, _+_}
 use mathlib.Core.Path.{_≡_, refl, ap, _∙_}
 use mathlib.Core.Bool.{Bool, true, false}
 use mathlib.Core.List.{List, [], _∷_, _++_}
+use Rattle.endian.specs.Numbers.{little, numberAt}
 use Rattle.words.specs.Sizes.{memory, object, placeOf, spaceOf}
 use Rattle.interface.specs.Basics.{if_then_else_, listed, allBelow, countBelow, lowest}
 use Rattle.interface.specs.Places.{Cap, State, PD, domainWord}
@@ -89,7 +90,7 @@ worked-examples =
 
 -- to unfold this is to unfold what the lines of journals on states compute by
 unfoldable journals : Unit {0}
-unfolding dispatch descriptors isEc boot-tables steps listed allBelow lowest found lookup bodyBytes bodyWord recordedCall beginning readBy contentsFrom stopLines stateLines
+unfolding dispatch descriptors isEc boot-tables steps listed allBelow lowest found lookup little numberAt bodyBytes bodyWord recordedCall beginning readBy contentsFrom stopLines stateLines
 journals = tt
 
 example-computed : stateReplay exampleJournal ≡ done 0 6 0 0 ∷ done 1 8 0 163855 ∷ ended 2 ∷ []

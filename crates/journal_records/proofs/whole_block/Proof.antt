@@ -1,4 +1,4 @@
--- The block begins with the words that the loop has passed, each of its four bytes.
+-- The block begins with the words that the loop has passed.
 use Prim.Native.Nat.{_+_, _-_, _≤_}
 use mathlib.Core.Path.{_≡_, refl}
 use native.Mathlib.Omega.{arith}
@@ -7,7 +7,7 @@ use denote.Ref.{now}
 use Rattle.words.specs.Sizes.{blockWords}
 use Rattle.interface.specs.Basics.{listed}
 use Rattle.interface.specs.Journal.{bodyWord}
-use Rattle.journal_records.proofs.BodyLaws.{word-of-four, listed-more, listed-all}
+use Rattle.journal_records.proofs.BodyLaws.{word-at, listed-more, listed-all}
 use Rattle.journal_records.proofs.whole_block.Statement.{statement}
 use Rattle.journal_records.proofs.whole_block.Tie as tie
 
@@ -28,29 +28,8 @@ add-at c = omega arith
 mul-at : tie.Need-mul-at Inv-loop μ-loop
 mul-at c = omega arith
 
-shared-slice-read-little-endian : tie.Need-shared-slice-read-little-endian Inv-loop μ-loop
-shared-slice-read-little-endian c = omega arith
-
-add-little-endian : tie.Need-add-little-endian Inv-loop μ-loop
-add-little-endian c = omega arith
-
-shared-slice-read-little-endian-2 : tie.Need-shared-slice-read-little-endian-2 Inv-loop μ-loop
-shared-slice-read-little-endian-2 c = omega arith
-
-add-little-endian-2 : tie.Need-add-little-endian-2 Inv-loop μ-loop
-add-little-endian-2 c = omega arith
-
-shared-slice-read-little-endian-3 : tie.Need-shared-slice-read-little-endian-3 Inv-loop μ-loop
-shared-slice-read-little-endian-3 c = omega arith
-
-add-little-endian-3 : tie.Need-add-little-endian-3 Inv-loop μ-loop
-add-little-endian-3 c = omega arith
-
-shared-slice-read-little-endian-4 : tie.Need-shared-slice-read-little-endian-4 Inv-loop μ-loop
-shared-slice-read-little-endian-4 c = omega arith
-
-little-endian-requires : tie.Need-little-endian-requires Inv-loop μ-loop
-little-endian-requires c κs = tt
+get32-requires : tie.Need-get32-requires Inv-loop μ-loop
+get32-requires c κs = omega arith
 
 mul-block : tie.Need-mul-block Inv-loop μ-loop
 mul-block c = omega arith
@@ -66,14 +45,13 @@ loop-less c = omega arith
 
 loop-again : tie.Need-loop-again Inv-loop μ-loop
 loop-again c =
-    let turn = c .before .before .before .before .before .before .loop in
-    let start = c .before .before .before .before .before .before .before .before .before in
+    let turn = c .before .before .loop in
+    let start = c .before .before .before .before .before in
     let body = now (start .args .body) in
-    let at = start .args .from + turn .i in
-    let is-word = word-of-four body at _ _ _ _ _ refl refl refl refl (c .little-endian .ensures) in (
+    let is-word = word-at body (start .args .from + turn .i) (c .get32 .result) (c .get32 .ensures) in (
       omega arith,
       simp length-set (turn .inv .1),
-      listed-more (λ k. bodyWord body (start .args .from + k)) (turn .block) (turn .i) (c .little-endian .result) (omega arith) is-word (turn .inv .2),
+      listed-more (λ k. bodyWord body (start .args .from + k)) (turn .block) (turn .i) (c .get32 .result) (omega arith) is-word (turn .inv .2),
     )
 
 same-length : tie.Need-same-length Inv-loop μ-loop
@@ -95,14 +73,7 @@ whole-block-spec =
     loop-holds
     add-at
     mul-at
-    shared-slice-read-little-endian
-    add-little-endian
-    shared-slice-read-little-endian-2
-    add-little-endian-2
-    shared-slice-read-little-endian-3
-    add-little-endian-3
-    shared-slice-read-little-endian-4
-    little-endian-requires
+    get32-requires
     mul-block
     slice-write-block
     add-i
