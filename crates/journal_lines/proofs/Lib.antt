@@ -1,3 +1,2 @@
 -- What is proved of the text of a line.
-pub mod DecimalLaws
-pub mod TextLaws
+pub mod LineLaws

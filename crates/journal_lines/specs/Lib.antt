@@ -1,2 +1,2 @@
 -- What the contracts of the functions that write a line cite.
-pub mod Texts
+pub mod Lines

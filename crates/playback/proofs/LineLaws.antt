@@ -2,24 +2,13 @@
 use Prim.Native.Nat.{ℕ, _≤_}
 use mathlib.Core.Path.{_≡_, refl, sym, ap, _∙_}
 use mathlib.Core.List.{List, [], _∷_, _++_, append-nil}
-use native.Mathlib.Nat.{add-zero}
-use lib.ListN.{length, take, take-append-drop}
+use lib.ListN.{length}
 use Rattle.interface.specs.Journal.{Line, ended, spelled, spelledLines, Beginning, empty, of-no-kind, cut-off, whole, beginning, stopLines}
 use Rattle.interface.proofs.Journal.JournalLaws.{spelled-append}
-use Rattle.journal_lines.specs.Texts.{Wrote}
-use Rattle.journal_lines.proofs.TextLaws.{wrote-then}
-use Rattle.recorded_calls.proofs.LineLaws.{wrote-same}
+use Rattle.texts.specs.Texts.{Wrote}
+use Rattle.texts.proofs.TextLaws.{wrote-same, wrote-then}
 use Rattle.playback.specs.declared.Found.{Found}
 use Rattle.playback.specs.Playing.{foundOf, foundIn, stopOf}
-
--- no text is written by leaving a buffer alone
-pub wrote-nothing : (out : List ℕ) (at : ℕ) → at ≤ length out → Wrote out at [] out at
-wrote-nothing out at inside =
-    record {
-      leaves = sym (rw (append-nil (take at out), add-zero at) (take-append-drop at out));
-      ends = sym (add-zero at);
-      fits = inside;
-    }
 
 -- the line of what stops the reading, as the code finds it, is that of what the bytes begin with
 stop-lines : (b : Beginning) → stopOf (foundOf b) ≡ stopLines b

@@ -25,12 +25,13 @@ use Rattle.interface.proofs.Basics.BoolLaws.{cases}
 use Rattle.interface.proofs.History.DemandLaws.{demand-3}
 use Rattle.interface.proofs.Journal.JournalLaws.{IsRecord, NoRecord, none-read, parts-read, record-added, tables-append, lines-append, length-lines, spelled-append, parts-in-turn, replay-none}
 use Rattle.interface.proofs.Consequences.ConsequenceLaws.{damaged-exactly}
-use Rattle.journal_lines.specs.Texts.{lineBytes, Wrote}
-use Rattle.journal_lines.proofs.TextLaws.{wrote-then}
+use Rattle.texts.specs.Texts.{Wrote}
+use Rattle.texts.proofs.TextLaws.{wrote-nothing, wrote-then}
+use Rattle.journal_lines.specs.Lines.{lineBytes}
 use Rattle.playback.specs.Playing.{foundIn, isWhole, stopOf, RoomForEach, Plays, Stops, Replays}
 use Rattle.playback.specs.declared.Found.{Found}
 use Rattle.playback.specs.declared.Played.{Played}
-use Rattle.playback.proofs.LineLaws.{wrote-nothing, stop-of-found}
+use Rattle.playback.proofs.LineLaws.{stop-of-found}
 use Rattle.playback.proofs.FoundLaws.{not-whole, FoundWhole, body-taken, front-next}
 
 -- one line more that has room

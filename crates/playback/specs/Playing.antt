@@ -8,7 +8,8 @@ use lib.ListN.{length, take, drop}
 use Rattle.interface.specs.Places.{Tables, sized}
 use Rattle.interface.specs.Demand.{LentOut, tablesAfterAll, fromBoot, historyOf}
 use Rattle.interface.specs.Journal.{Line, short, unknown, spelledLines, Beginning, empty, of-no-kind, cut-off, whole, beginning, contents, recorded, linesFrom, replay}
-use Rattle.journal_lines.specs.Texts.{lineBytes, Wrote}
+use Rattle.texts.specs.Texts.{Wrote}
+use Rattle.journal_lines.specs.Lines.{lineBytes}
 use Rattle.playback.specs.declared.Found.{Found}
 use Rattle.playback.specs.declared.Found.the-variants.{Nothing, Unknown, Short, Whole}
 use Rattle.playback.specs.declared.Played.{Played}

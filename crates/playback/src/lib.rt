@@ -7,7 +7,8 @@ ghost use lib.ListN.{length, take, drop};
 ghost use Rattle.interface.specs.Places.{tables};
 ghost use Rattle.interface.specs.Damage.{sound};
 ghost use Rattle.interface.specs.Journal.{ended, spelledLines};
-ghost use Rattle.journal_lines.specs.Texts.{lineBytes, Wrote};
+ghost use Rattle.texts.specs.Texts.{Wrote};
+ghost use Rattle.journal_lines.specs.Lines.{lineBytes};
 ghost use Rattle.playback.specs.Playing.{foundIn, stopOf, Plays, Stops, ReplayedAs};
 use journal_lines::Line;
 

@@ -1,6 +1,6 @@
 -- A line written into a part of a buffer that is as long as the longest line, and that of a record.
 use Prim.Native.Nat.{ℕ, _+_, _-_, _≤_}
-use mathlib.Core.Path.{_≡_, refl, sym, ap, _∙_, subst}
+use mathlib.Core.Path.{_≡_, refl, sym, ap, _∙_}
 use mathlib.Core.List.{List, [], _∷_, _++_, append-assoc, append-nil}
 use native.Mathlib.Nat.{zero-add}
 use native.Mathlib.Omega.{arith}
@@ -9,6 +9,7 @@ use lib.Seq.{length-take-le, drop-append-le, drop-drop}
 use borrow.Author.Tests.{le-ltb}
 use borrow.Rule.Slice.PartMut.{putMid, same-len-mid}
 use Rattle.io.specs.Counts.{Counts}
+use Rattle.endian.specs.Parts.{written}
 use Rattle.reply.specs.declared.Reply.{Reply}
 use Rattle.reply.specs.Replies.{statusOf, answerOf}
 use Rattle.interface.specs.Places.{Tables}
@@ -17,12 +18,10 @@ use Rattle.interface.specs.Rules.{hypercallReply, hypercallTables}
 use Rattle.interface.specs.History.{hypercalls}
 use Rattle.interface.specs.Demand.{tablesAfter, tablesAfterAll}
 use Rattle.interface.specs.Journal.{recordedCall, done, spelled, spelledLines, linesFrom}
+use Rattle.texts.specs.Texts.{Wrote}
+use Rattle.texts.proofs.TextLaws.{wrote-same}
 use Rattle.journal_lines.specs.declared.Line.{Line}
-use Rattle.journal_lines.specs.Texts.{lineOf, lineBytes, written, fitting, Wrote}
-
--- a text may be another that is the same
-pub wrote-same : {out after text other : List ℕ} {at end : ℕ} → text ≡ other → Wrote out at text after end → Wrote out at other after end
-wrote-same {out} {after} {at = at} {end = end} same wrote = subst (λ (t : List ℕ). Wrote out at t after end) same wrote
+use Rattle.journal_lines.specs.Lines.{lineOf, lineBytes, fitting}
 
 module _ (out : List ℕ) (at : ℕ) (line : Line) (room : at + lineBytes ≤ length out) where
   abbrev part : List ℕ

@@ -9,7 +9,7 @@ use Rattle.interface.specs.Verdicts.{Call}
 use Rattle.interface.specs.History.{hypercalls}
 use Rattle.interface.specs.Demand.{tablesAfterAll}
 use Rattle.interface.specs.Journal.{spelledLines, linesFrom}
-use Rattle.journal_lines.specs.Texts.{Wrote}
+use Rattle.texts.specs.Texts.{Wrote}
 
 -- a record's hypercall played on some tables, with its line, of an index, written into a buffer at a place: the tables are those after it, and still sound, and the text written
 -- is that of the line

@@ -5,7 +5,7 @@ ghost use mathlib.Core.Bool.{true};
 ghost use lib.ListN.{length, take};
 ghost use Rattle.interface.specs.Places.{tables};
 ghost use Rattle.interface.specs.Damage.{sound};
-ghost use Rattle.journal_lines.specs.Texts.{lineBytes};
+ghost use Rattle.journal_lines.specs.Lines.{lineBytes};
 ghost use Rattle.turns.specs.Buffers.{Waits, Inside, lineStart, lastAfter, Turn, KeepsUnplayed, begun, TurnsToTheEnd};
 use libc::STDIN_FILENO;
 use libc::STDOUT_FILENO;

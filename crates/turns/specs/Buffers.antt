@@ -8,7 +8,7 @@ use lib.Dec.{eqb}
 use lib.ListN.{length, take, drop}
 use Rattle.interface.specs.Basics.{if_then_else_}
 use Rattle.interface.specs.Places.{Tables}
-use Rattle.journal_lines.specs.Texts.{lineBytes}
+use Rattle.journal_lines.specs.Lines.{lineBytes}
 use Rattle.playback.specs.declared.Found.{Found}
 use Rattle.playback.specs.declared.Found.the-variants.{Nothing, Unknown, Short, Whole}
 use Rattle.playback.specs.Playing.{foundIn, isWhole, Plays}

@@ -3,8 +3,9 @@ use Prim.Native.Nat.{_≤_}
 use native.Mathlib.Omega.{arith}
 use borrow.Author.Needs.{needs}
 use Rattle.interface.specs.Journal.{blank}
-use Rattle.journal_lines.proofs.DecimalLaws.{decimal-at-most}
-use Rattle.journal_lines.proofs.TextLaws.{number-ends, wrote-done}
+use Rattle.texts.proofs.DecimalLaws.{decimal-at-most}
+use Rattle.texts.proofs.TextLaws.{number-ends}
+use Rattle.journal_lines.proofs.LineLaws.{wrote-done}
 use Rattle.journal_lines.proofs.put_done.Statement.{statement}
 use Rattle.journal_lines.proofs.put_done.Tie as tie
 

@@ -2,8 +2,8 @@
 use native.Mathlib.Omega.{arith}
 use denote.Ref.{now}
 use borrow.Author.Needs.{needs}
-use Rattle.journal_lines.proofs.DecimalLaws.{decimal-at-most}
-use Rattle.journal_lines.proofs.TextLaws.{wrote-named}
+use Rattle.texts.proofs.DecimalLaws.{decimal-at-most}
+use Rattle.journal_lines.proofs.LineLaws.{wrote-named}
 use Rattle.journal_lines.proofs.put_named.Statement.{statement}
 use Rattle.journal_lines.proofs.put_named.Tie as tie
 

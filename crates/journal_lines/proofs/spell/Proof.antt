@@ -3,8 +3,8 @@ use mathlib.Core.Path.{ap}
 use denote.Ref.{now}
 use borrow.Author.Needs.{needs}
 use Rattle.interface.specs.Journal.{spelled}
-use Rattle.journal_lines.proofs.TextLaws.{line-too-long, line-spelled}
-use Rattle.journal_lines.specs.Texts.{lineOf}
+use Rattle.journal_lines.proofs.LineLaws.{line-too-long, line-spelled}
+use Rattle.journal_lines.specs.Lines.{lineOf}
 use Rattle.journal_lines.proofs.spell.Statement.{statement}
 use Rattle.journal_lines.proofs.spell.Tie as tie
 

@@ -5,7 +5,8 @@ use native.Mathlib.Omega.{arith}
 use denote.Ref.{now}
 use Rattle.interface.specs.Journal.{short}
 use Rattle.playback.specs.declared.Found.the-variants.{Nothing, Short}
-use Rattle.playback.proofs.LineLaws.{wrote-nothing, stop-none, stop-one}
+use Rattle.texts.proofs.TextLaws.{wrote-nothing}
+use Rattle.playback.proofs.LineLaws.{stop-none, stop-one}
 use Rattle.playback.proofs.add_stop_line.Statement.{statement}
 use Rattle.playback.proofs.add_stop_line.Tie as tie
 

@@ -7,7 +7,7 @@ use lib.ListN.{length}
 use denote.Ref.{now}
 use Rattle.interface.specs.Places.{sized, tablesOf, tables}
 use Rattle.interface.specs.Boot.{boot}
-use Rattle.journal_lines.specs.Texts.{lineBytes}
+use Rattle.journal_lines.specs.Lines.{lineBytes}
 use Rattle.playback.proofs.PlayingLaws.{plays-from-boot, sound-from-boot, stopped-none, stopped-by, replays-part, part-ends, all-records, replays-all, all-or-no-room, boot-refused, boot-done}
 use borrow.Author.Needs.{needs}
 use Rattle.playback.proofs.replay.Statement.{statement}

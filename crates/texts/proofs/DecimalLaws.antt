@@ -1,6 +1,6 @@
 -- A number in decimal has as many digits as its width says, which are the fewest that hold it.
 use Prim.Native.Nat.{ℕ, zero, suc, _-_, _/_, _^_, _≤_, suc-le-suc, _<_}
-use mathlib.Core.Path.{_≡_, refl, ap, _∙_}
+use mathlib.Core.Path.{_≡_, refl, sym, ap, _∙_}
 use mathlib.Core.Bool.{true, false}
 use mathlib.Core.List.{List}
 use native.Mathlib.Nat.{pow-suc, one-le-pow}
@@ -14,7 +14,7 @@ use Rattle.interface.specs.Journal.{width, decimal}
 use Rattle.interface.proofs.Basics.BoolLaws.{cases}
 
 -- there are as many digits as were asked for
-length-digits : (base count number : ℕ) → length (digits base count number) ≡ count
+pub length-digits : (base count number : ℕ) → length (digits base count number) ≡ count
 length-digits base zero number = refl
 length-digits base (suc count) number = simp length-append (rw (length-digits base count (number / base), add-one))
 
@@ -69,3 +69,7 @@ pub fewest-is-decimal : (number count : ℕ) (text : List ℕ) → number < 2 ^ 
 fewest-is-decimal number count text l f e =
     let same : count ≡ width 20 number = fewest-is-width 19 number count (omega arith) f in
     e ∙ ap (λ (k : ℕ). digits 10 k number) same
+
+-- and are as many as its text has
+pub fewest-is-length : (number count : ℕ) → number < 2 ^ 64 → Fewest 10 1 number count → count ≡ length (decimal number)
+fewest-is-length number count l f = fewest-is-width 19 number count (omega arith) f ∙ sym (length-digits 10 (width 20 number) number)

@@ -5,9 +5,9 @@ use native.Mathlib.Omega.{arith}
 use lib.ListN.{length, length-set}
 use lib.Seq.{paste, paste-zero}
 use denote.Ref.{now}
-use Rattle.journal_lines.proofs.TextLaws.{copied-more, copied-whole}
-use Rattle.journal_lines.proofs.put.Statement.{statement}
-use Rattle.journal_lines.proofs.put.Tie as tie
+use Rattle.texts.proofs.TextLaws.{copied-more, copied-whole}
+use Rattle.texts.proofs.put.Statement.{statement}
+use Rattle.texts.proofs.put.Tie as tie
 
 abbrev Inv-loop : tie.InvT-loop
 Inv-loop out₀ at text i₀ out i = (i ≤ length text) × (at + length text ≤ length out₀) × (length out ≡ length out₀) × (out ≡ paste out₀ at text i)

@@ -1,8 +1,8 @@
 -- The fewest digits that hold a number are the number in decimal.
 use borrow.Author.Needs.{needs}
-use Rattle.journal_lines.proofs.DecimalLaws.{fewest-is-decimal}
-use Rattle.journal_lines.proofs.put_decimal.Statement.{statement}
-use Rattle.journal_lines.proofs.put_decimal.Tie as tie
+use Rattle.texts.proofs.DecimalLaws.{fewest-is-decimal}
+use Rattle.texts.proofs.put_decimal.Statement.{statement}
+use Rattle.texts.proofs.put_decimal.Tie as tie
 
 decimal-requires : tie.Need-decimal-requires
 decimal-requires c κs = search needs

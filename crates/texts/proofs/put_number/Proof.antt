@@ -5,9 +5,9 @@ use lib.ListN.{length}
 use denote.Ref.{now}
 use borrow.Author.Needs.{needs}
 use Rattle.interface.specs.Journal.{decimal}
-use Rattle.journal_lines.proofs.TextLaws.{wrote-byte}
-use Rattle.journal_lines.proofs.put_number.Statement.{statement}
-use Rattle.journal_lines.proofs.put_number.Tie as tie
+use Rattle.texts.proofs.TextLaws.{wrote-byte}
+use Rattle.texts.proofs.put_number.Statement.{statement}
+use Rattle.texts.proofs.put_number.Tie as tie
 
 put-decimal-requires : tie.Need-put-decimal-requires
 put-decimal-requires c κs = search needs

@@ -1,0 +1,3 @@
+-- What is proved of texts in a buffer.
+pub mod DecimalLaws
+pub mod TextLaws
