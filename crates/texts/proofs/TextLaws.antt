@@ -1,32 +1,19 @@
 -- Texts written one after the other are one text written.
 use Prim.Native.Nat.{ℕ, suc, _+_, _-_, _/_, _%_, _^_, _≤_, _<_}
 use mathlib.Core.Path.{_≡_, refl, sym, ap, _∙_, subst}
-use mathlib.Core.List.{List, [], _∷_, _++_, append-nil}
+use mathlib.Core.List.{List, [], _∷_, _++_}
 use native.Mathlib.Nat.{add-assoc, add-zero}
-use native.Mathlib.Numerals.{add-one}
 use native.Mathlib.Omega.{arith}
-use lib.ListN.{length, getD, set, replicate, length-append, length-set, length-replicate, replicate-append-replicate, take-append-drop}
-use lib.Seq.{take-length, paste, paste-suc}
+use lib.ListN.{length, set, replicate, length-append, length-set, length-replicate, replicate-append-replicate}
 use Rattle.io.specs.Digits.{glyph, digits}
-use Rattle.endian.proofs.PartLaws.{written-then, byte-written}
+use Rattle.endian.proofs.PartLaws.{written-nothing, written-then, byte-written}
 use Rattle.interface.specs.Journal.{decimal, blank}
 use Rattle.texts.specs.Texts.{hexadecimal, padded, Wrote}
 use Rattle.texts.proofs.DecimalLaws.{length-digits, decimal-at-most}
 
--- a turn of the loop that copies a text
-pub copied-more : (before text after : List ℕ) (at i : ℕ) → at + i < length before → i < length text → after ≡ paste before at text i →
-    set after (at + i) (getD text i 0) ≡ paste before at text (i + 1)
-copied-more before text after at i room more e = rw (e, add-one) (paste-suc before at text i 0 room more)
-
--- a text that is copied whole is written
-pub copied-whole : (before text after : List ℕ) (at i : ℕ) → i ≡ length text → at + i ≤ length after → after ≡ paste before at text i → Wrote before at text after (at + i)
-copied-whole before text after at i whole fits e =
-    record { leaves = e ∙ (rw (whole, take-length text)); ends = ap (λ (k : ℕ). at + k) whole; fits = fits }
-
 -- no text is written by leaving a buffer alone
 pub wrote-nothing : (before : List ℕ) (at : ℕ) → at ≤ length before → Wrote before at [] before at
-wrote-nothing before at fits =
-    record { leaves = rw (append-nil, add-zero) (sym (take-append-drop at before)); ends = sym (add-zero at); fits = fits }
+wrote-nothing before at fits = record { leaves = written-nothing before at; ends = sym (add-zero at); fits = fits }
 
 -- a text may be another that is the same
 pub wrote-same : {before text other after : List ℕ} {at end : ℕ} → text ≡ other → Wrote before at text after end → Wrote before at other after end
