@@ -1,2 +1,3 @@
 -- What the contracts of the linked functions cite.
 pub mod Packing
+pub mod PagePacking

@@ -1,5 +1,7 @@
 // The functions that programs in other languages link: a slice passes as a pointer and a length, and a reply as one number, its status in the high and its answer in the low
 // 32 bits.
+pub mod pages;
+
 ghost use mathlib.Core.Path.{_≡_};
 ghost use lib.ListN.{length};
 ghost use Rattle.interface.specs.Places.{tables};

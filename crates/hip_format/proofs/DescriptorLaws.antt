@@ -1,16 +1,19 @@
 -- The descriptors of a page by their index.
 use Prim.Native.Nat.{ℕ, zero, suc, _+_, _*_, _≤_, _<_}
 use mathlib.Core.Path.{_≡_, refl, sym, ap, _∙_}
+use mathlib.Core.Bool.{true}
 use mathlib.Core.List.{List, [], _∷_}
 use native.Mathlib.Omega.{arith}
 use lib.ListN.{length}
-use Rattle.hip_format.specs.Format.{Contents}
-use Rattle.hip_format.specs.Reader.{memoryOffset, cpuAt, memoryAt, spaced, cpuCount, memoryCount, contentsOf, nth, Judgement, refused, accepted, judged, cpuOf, memoryOf}
+use Rattle.hip_format.specs.Format.{typeAllowed, Contents}
+use Rattle.hip_format.specs.Reader.{memoryOffset, cpuAt, memoryAt, spaced, cpuCount, memoryCount, contentsOf, typesAllowed, nth, Judgement, refused, accepted, judged, cpuOf, memoryOf}
+use Rattle.hip_format.specs.declared.Memory.{Memory}
 use Rattle.hip_format.specs.declared.Refusal.{Refusal}
 use Rattle.hip_format.specs.declared.FoundCpu as FoundCpu
 use Rattle.hip_format.specs.declared.FoundMemory as FoundMemory
 use Rattle.hip_format.proofs.ListLaws.{length-spaced}
-use Rattle.hip_format.proofs.JudgeLaws.{contents-of}
+use Rattle.hip_format.proofs.JudgeLaws.{typed-of, contents-of}
+use Rattle.hip_format.proofs.FieldLaws.{and-left, and-right}
 
 module _ {A B : Type 0} (none : B) (found : A → B) where
   -- the one of an index among those at places a distance apart
@@ -60,3 +63,23 @@ module _ (bytes : List ℕ) (contents : Contents) (index : ℕ) (is-page : judge
 pub none-refused : (bytes : List ℕ) (refusal : Refusal) (index : ℕ) → judged bytes ≡ refused refusal →
     (cpuOf (judged bytes) index ≡ FoundCpu.the-variants.Nothing) × (memoryOf (judged bytes) index ≡ FoundMemory.the-variants.Nothing)
 none-refused bytes refusal index e = (rw e, rw e)
+
+-- a memory descriptor that is found has a type that is allowed
+nth-allowed : (memories : List Memory) (index : ℕ) (memory : Memory) → typesAllowed memories ≡ true →
+    nth FoundMemory.the-variants.Nothing FoundMemory.the-variants.At memories index ≡ FoundMemory.the-variants.At memory → typeAllowed (memory .kind) ≡ true
+unfolding nth typesAllowed
+nth-allowed [] index memory t e = let never : _≡_ {A = ℕ} 0 1 = cc in absurd (omega arith)
+nth-allowed (first ∷ memories) zero memory t e = let same : first ≡ memory = cc in rw (sym same) (and-left (typeAllowed (first .kind)) (typesAllowed memories) t)
+nth-allowed (first ∷ memories) (suc index) memory t e = nth-allowed memories index memory (and-right (typeAllowed (first .kind)) (typesAllowed memories) t) e
+
+pub found-allowed : (bytes : List ℕ) (index : ℕ) (memory : Memory) → memoryOf (judged bytes) index ≡ FoundMemory.the-variants.At memory → typeAllowed (memory .kind) ≡ true
+found-allowed bytes index memory e = go (judged bytes) refl
+  where
+    go : (judgement : Judgement) → judged bytes ≡ judgement → typeAllowed (memory .kind) ≡ true
+    go (refused refusal) j =
+        let none : memoryOf (judged bytes) index ≡ FoundMemory.the-variants.Nothing = ap (λ (j : Judgement). memoryOf j index) j in
+        let never : _≡_ {A = ℕ} 0 1 = cc in
+        absurd (omega arith)
+    go (accepted contents) j =
+        let allowed : typesAllowed (contents .memories) ≡ true = rw (sym (contents-of bytes contents j)) at (typed-of bytes contents j .1) in
+        nth-allowed (contents .memories) index memory allowed (ap (λ (j : Judgement). memoryOf j index) (sym j) ∙ e)

@@ -67,7 +67,7 @@ cpu-fits bytes at each (suc (suc (suc zero))) = each (at + 3)
 cpu-fits bytes at each (suc (suc (suc (suc i)))) = omega arith
 
 -- a type that is allowed is read back from its bits
-kind-back : (kind : ℤ) → typeAllowed kind ≡ true → toZ w32 (ofZ w32 kind) ≡ kind
+pub kind-back : (kind : ℤ) → typeAllowed kind ≡ true → toZ w32 (ofZ w32 kind) ≡ kind
 kind-back (pos number) allowed =
     let small : number < 2 ^ 31 = omega (arith, leb-true number 4 (and-right (ltb 0 number) (leb number 4) allowed)) in
     toZ-ofZ {w = w32} {z = pos number} (record { sfits = small })

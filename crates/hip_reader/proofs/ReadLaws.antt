@@ -11,7 +11,9 @@ use mir.Syntax.{w32}
 use mir.Val.{ofZ, toZ}
 use mir.Facts.{ofZ-toZ}
 use borrow.Author.Tests.{not-true, not-false, le-leb, lt-leb, lt-ltb, le-ltb, eq-eqb, ne-eqb, ltb-true, ltb-false, leb-true}
+use Rattle.endian.specs.Parts.{AreBytes}
 use Rattle.endian.specs.Numbers.{numberAt}
+use Rattle.endian.proofs.NumberLaws.{number-below}
 use Rattle.endian.proofs.PartLaws.{part-four}
 use Rattle.hip_format.specs.Format.{signature, Contents, wordSum}
 use Rattle.hip_format.specs.Reader.{lengthField, cpuOffset, cpuSizeField, memoryOffset, memorySizeField, headerAt, cpuAt, memoryAt, spaced, cpuCount, memoryCount, contentsOf, sameBytes, layoutGood, typesAllowed, Judgement, refused, accepted, judged, summary, reading, cpuOf, memoryOf}
@@ -151,6 +153,7 @@ begins bytes start is-laid-out laid-out t e =
 -- what an answer tells of the bytes: why they are refused, or that they are a page with so many descriptors
 pub record Accepts (bytes : List ℕ) (summary : Summary) : Type 0 where
   pub is-page : judged bytes ≡ accepted (contentsOf bytes)
+  pub header-read : summary .header ≡ contentsOf bytes .header
   pub cpus-end : 56 + 4 * summary .cpus ≡ memoryOffset bytes
   pub memories-end : memoryOffset bytes + 24 * summary .memories ≡ length bytes
   pub cpus-read : length (contentsOf bytes .cpus) ≡ summary .cpus
@@ -178,6 +181,7 @@ accepts bytes found answer e a = go (judged bytes) refl
         let memories : found .memories ≡ length (contents .memories) = ap (λ (s : Summary). s .memories) told in
         record {
           is-page = j ∙ ap accepted standing;
+          header-read = ap (λ (s : Summary). s .header) told ∙ ap (λ (c : Contents). c .header) standing;
           cpus-end = rw (lays .cpu-part, lays .cpu-size, ← cpus) at (cpus-counted bytes contents j);
           memories-end = (rw (lays .memory-size, ← memories) at (memories-counted bytes contents j)) ∙ typed .0 .0 .0 .1;
           cpus-read = sym (cpus ∙ ap (λ (c : Contents). length (c .cpus)) standing);
@@ -207,3 +211,9 @@ module _ (bytes : List ℕ) (index : ℕ) where
         FoundMemory.the-variants.At memory ≡ memoryOf (judged bytes) index
     memory-found start memory inside begin e =
         ap FoundMemory.the-variants.At (rw begin at e) ∙ sym (memory-stands bytes (contentsOf bytes) index (page .is-page) (rw (page .memories-read) inside))
+
+-- a page is no longer than its length field can say
+pub short-page : (bytes : List ℕ) (found : Summary) → AreBytes bytes → Accepts bytes found → length bytes < 65536
+short-page bytes found each page =
+    let typed : Typed bytes = typed-of bytes (contentsOf bytes) (page .is-page) in
+    omega (arith, number-below bytes 6 2 each (omega (arith, typed .0 .0 .0 .0 .0)), typed .0 .0 .0 .1)

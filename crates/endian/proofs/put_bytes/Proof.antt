@@ -1,3 +1,4 @@
+-- The bytes that the loop has passed are written.
 use Prim.Native.Nat.{_+_, _-_, _≤_}
 use mathlib.Core.Path.{_≡_, refl}
 use native.Mathlib.Omega.{arith}
@@ -7,8 +8,6 @@ use denote.Ref.{now}
 use Rattle.endian.proofs.PartLaws.{copied-more, copied-whole}
 use Rattle.endian.proofs.put_bytes.Statement.{statement}
 use Rattle.endian.proofs.put_bytes.Tie as tie
-use Rattle.endian.proofs.put_bytes.Reads as reads
-use Rattle.endian.proofs.put_bytes.Lts as lts
 
 abbrev Inv-loop : tie.InvT-loop
 Inv-loop buffer₀ at bytes i₀ buffer i = (i ≤ length bytes) × (at + length bytes ≤ length buffer₀) × (length buffer ≡ length buffer₀) × (buffer ≡ paste buffer₀ at bytes i)
@@ -16,31 +15,24 @@ Inv-loop buffer₀ at bytes i₀ buffer i = (i ≤ length bytes) × (at + length
 abbrev μ-loop : tie.MeasureT-loop
 μ-loop buffer₀ at bytes i₀ buffer i = length bytes - i
 
--- src/lib.rt:104:5
 loop-holds : tie.Need-loop-holds Inv-loop μ-loop
 loop-holds c = (omega arith, c .pre, refl, paste-zero (now (c .args .buffer)) (c .args .at) (now (c .args .bytes)))
 
--- src/lib.rt:105:26
 shared-slice-read-buffer : tie.Need-shared-slice-read-buffer Inv-loop μ-loop
 shared-slice-read-buffer c = omega arith
 
--- src/lib.rt:105:16
 add-buffer : tie.Need-add-buffer Inv-loop μ-loop
 add-buffer c = omega arith
 
--- src/lib.rt:105:9
 slice-write-buffer : tie.Need-slice-write-buffer Inv-loop μ-loop
 slice-write-buffer c = omega arith
 
--- src/lib.rt:106:9
 add-i : tie.Need-add-i Inv-loop μ-loop
 add-i c = omega arith
 
--- src/lib.rt:104:5
 loop-less : tie.Need-loop-less Inv-loop μ-loop
 loop-less c = omega arith
 
--- src/lib.rt:104:5
 loop-again : tie.Need-loop-again Inv-loop μ-loop
 loop-again c = let start = c .before .before .before .args in
     let turn = c .before .before .loop in (
@@ -50,11 +42,9 @@ loop-again c = let start = c .before .before .before .args in
       copied-more (now (start .buffer)) (now (start .bytes)) (turn .buffer) (start .at) (turn .i) (omega arith) (omega arith) (turn .inv .3),
     )
 
--- src/lib.rt:99:1
 same-length : tie.Need-same-length Inv-loop μ-loop
 same-length c = omega arith
 
--- src/lib.rt:99:1
 returns : tie.Need-returns Inv-loop μ-loop
 returns c = let start = c .before .before .args in
     let turn = c .before .loop in

@@ -1,10 +1,8 @@
+-- The bits of a type in two halves.
 use Rattle.hip_format.proofs.TypeLaws.{type-tested}
 use Rattle.hip_format.proofs.is_allowed.Statement.{statement}
 use Rattle.hip_format.proofs.is_allowed.Tie as tie
-use Rattle.hip_format.proofs.is_allowed.Reads as reads
-use Rattle.hip_format.proofs.is_allowed.Lts as lts
 
--- src/lib.rt:65:1
 returns : tie.Need-returns
 returns c = type-tested (c .args .bits) (c .fits .bits .fits)
 

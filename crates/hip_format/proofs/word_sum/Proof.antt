@@ -1,3 +1,4 @@
+-- The words from the next one on add up to the rest of the sum.
 use Prim.Native.Nat.{_+_, _*_, _-_, _≤_}
 use mathlib.Core.Path.{_≡_, refl}
 use native.Mathlib.Omega.{arith}
@@ -8,9 +9,6 @@ use Rattle.hip_format.specs.Format.{greatestLength, wordSum}
 use Rattle.hip_format.proofs.SumLaws.{sum-more, sum-none}
 use Rattle.hip_format.proofs.word_sum.Statement.{statement}
 use Rattle.hip_format.proofs.word_sum.Tie as tie
-use Rattle.hip_format.proofs.word_sum.Reads as reads
-use Rattle.hip_format.proofs.word_sum.Lts as lts
-use Rattle.endian.proofs.get16.Reads as get16-reads
 
 abbrev Inv-loop : tie.InvT-loop
 Inv-loop bytes sum₀ at₀ sum at = (length bytes ≤ greatestLength) × (at ≤ length bytes) × (sum ≤ 65535 * at) × (sum + wordSum (drop at bytes) ≡ wordSum bytes)
@@ -18,41 +16,32 @@ Inv-loop bytes sum₀ at₀ sum at = (length bytes ≤ greatestLength) × (at �
 abbrev μ-loop : tie.MeasureT-loop
 μ-loop bytes sum₀ at₀ sum at = length bytes - at
 
--- src/lib.rt:133:5
 loop-holds : tie.Need-loop-holds Inv-loop μ-loop
 loop-holds c = (c .before .pre, omega arith, omega arith, omega arith)
 
--- src/lib.rt:133:11
 add-loop : tie.Need-add-loop Inv-loop μ-loop
 add-loop c = omega arith
 
--- src/lib.rt:134:16
 get16-requires : tie.Need-get16-requires Inv-loop μ-loop
 get16-requires c κs = omega arith
 
--- src/lib.rt:134:16
 cast-sum : tie.Need-cast-sum Inv-loop μ-loop
 cast-sum c = omega arith
 
--- src/lib.rt:134:9
 add-sum : tie.Need-add-sum Inv-loop μ-loop
 add-sum c = omega arith
 
--- src/lib.rt:135:9
 add-at : tie.Need-add-at Inv-loop μ-loop
 add-at c = omega arith
 
--- src/lib.rt:133:5
 loop-less : tie.Need-loop-less Inv-loop μ-loop
 loop-less c = omega arith
 
--- src/lib.rt:133:5
 loop-again : tie.Need-loop-again Inv-loop μ-loop
 loop-again c = let turn = c .before .before .loop in
     let bytes = now (c .before .before .before .before .args .bytes) in
     (turn .inv .0, omega arith, omega arith, omega (arith, sum-more bytes (turn .at) (omega arith), c .get16 .ensures, turn .inv .3))
 
--- src/lib.rt:127:1
 returns : tie.Need-returns Inv-loop μ-loop
 returns c = let turn = c .before .loop in
     let bytes = now (c .before .before .before .args .bytes) in

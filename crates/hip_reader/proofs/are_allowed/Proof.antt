@@ -1,3 +1,4 @@
+-- The types from the next descriptor on decide the rest.
 use mathlib.Core.Path.{ap}
 use Prim.Native.Nat.{ℕ, _-_}
 use mir.Syntax.{w32}
@@ -13,9 +14,6 @@ use Rattle.hip_format.specs.Reader.{memoryAt, spaced, typesAllowed}
 use Rattle.hip_format.proofs.TypeLaws.{first-refused, first-allowed, none-left}
 use Rattle.hip_reader.proofs.are_allowed.Statement.{statement}
 use Rattle.hip_reader.proofs.are_allowed.Tie as tie
-use Rattle.hip_reader.proofs.are_allowed.Reads as reads
-use Rattle.hip_reader.proofs.are_allowed.Lts as lts
-use Rattle.endian.proofs.get32.Reads as get32-reads
 
 abbrev Inv-loop : tie.InvT-loop
 Inv-loop bytes start count at₀ left₀ at left = (at + 24 * left ≤ length bytes) × (typesAllowed (spaced (memoryAt bytes) start 24 count) ≡ typesAllowed (spaced (memoryAt bytes) at 24 left))
@@ -23,49 +21,39 @@ Inv-loop bytes start count at₀ left₀ at left = (at + 24 * left ≤ length by
 abbrev μ-loop : tie.MeasureT-loop
 μ-loop bytes start count at₀ left₀ at left = left
 
--- src/lib.rt:78:5
 loop-holds : tie.Need-loop-holds Inv-loop μ-loop
 loop-holds c = (c .before .pre, refl)
 
--- src/lib.rt:79:45
 add-get32 : tie.Need-add-get32 Inv-loop μ-loop
 add-get32 c = omega arith
 
--- src/lib.rt:79:24
 get32-requires : tie.Need-get32-requires Inv-loop μ-loop
 get32-requires c κs = omega arith
 
--- src/lib.rt:79:13
 is-allowed-requires : tie.Need-is-allowed-requires Inv-loop μ-loop
 is-allowed-requires c κs = tt
 
--- src/lib.rt:80:13
 returns : tie.Need-returns Inv-loop μ-loop
 returns c = let turn = c .before .before .before .before .loop in
     let bytes = now (c .before .before .before .before .before .before .args .bytes) in
     let asked = c .before .is-allowed .ensures ∙ ap (λ (bits : ℕ). typeAllowed (toZ w32 bits)) (c .before .before .get32 .ensures) in
     first-refused (memoryAt bytes) (turn .at) 24 (turn .left) _ (omega arith) asked (not-true _ (c .if1 .taken)) ∙ sym (turn .inv .1)
 
--- src/lib.rt:82:9
 add-at : tie.Need-add-at Inv-loop μ-loop
 add-at c = omega arith
 
--- src/lib.rt:83:9
 sub-left : tie.Need-sub-left Inv-loop μ-loop
 sub-left c = omega arith
 
--- src/lib.rt:78:5
 loop-less : tie.Need-loop-less Inv-loop μ-loop
 loop-less c = omega arith
 
--- src/lib.rt:78:5
 loop-again : tie.Need-loop-again Inv-loop μ-loop
 loop-again c = let turn = c .before .before .before .before .loop in
     let bytes = now (c .before .before .before .before .before .before .args .bytes) in
     let asked = c .before .is-allowed .ensures ∙ ap (λ (bits : ℕ). typeAllowed (toZ w32 bits)) (c .before .before .get32 .ensures) in
     (omega arith, turn .inv .1 ∙ first-allowed (memoryAt bytes) (turn .at) 24 (turn .left) _ (omega arith) asked (not-false _ (c .if1 .left)))
 
--- src/lib.rt:72:1
 returns-2 : tie.Need-returns-2 Inv-loop μ-loop
 returns-2 c = let turn = c .before .loop in
     let bytes = now (c .before .before .before .args .bytes) in

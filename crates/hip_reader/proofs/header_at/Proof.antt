@@ -1,51 +1,38 @@
+-- Ten numbers of 32 bits at their places.
 use borrow.Author.Needs.{needs}
 use Rattle.hip_reader.proofs.header_at.Statement.{statement}
 use Rattle.hip_reader.proofs.header_at.Tie as tie
-use Rattle.hip_reader.proofs.header_at.Reads as reads
-use Rattle.hip_reader.proofs.header_at.Lts as lts
-use Rattle.endian.proofs.get32.Reads as get32-reads
 
--- src/lib.rt:94:19
 get32-requires : tie.Need-get32-requires
 get32-requires c κs = search needs
 
--- src/lib.rt:95:18
 get32-requires-2 : tie.Need-get32-requires-2
 get32-requires-2 c κs = search needs
 
--- src/lib.rt:96:14
 get32-requires-3 : tie.Need-get32-requires-3
 get32-requires-3 c κs = search needs
 
--- src/lib.rt:97:14
 get32-requires-4 : tie.Need-get32-requires-4
 get32-requires-4 c κs = search needs
 
--- src/lib.rt:98:14
 get32-requires-5 : tie.Need-get32-requires-5
 get32-requires-5 c κs = search needs
 
--- src/lib.rt:99:14
 get32-requires-6 : tie.Need-get32-requires-6
 get32-requires-6 c κs = search needs
 
--- src/lib.rt:100:16
 get32-requires-7 : tie.Need-get32-requires-7
 get32-requires-7 c κs = search needs
 
--- src/lib.rt:101:16
 get32-requires-8 : tie.Need-get32-requires-8
 get32-requires-8 c κs = search needs
 
--- src/lib.rt:102:14
 get32-requires-9 : tie.Need-get32-requires-9
 get32-requires-9 c κs = search needs
 
--- src/lib.rt:103:14
 get32-requires-10 : tie.Need-get32-requires-10
 get32-requires-10 c κs = search needs
 
--- src/lib.rt:89:1
 returns : tie.Need-returns
 returns c = cc
 

@@ -1,44 +1,34 @@
+-- Four tests of bytes are the test of the signature.
 use denote.Ref.{now}
 use Rattle.hip_reader.proofs.ReadLaws.{four-signed}
 use borrow.Author.Needs.{needs}
 use Rattle.hip_reader.proofs.is_signed.Statement.{statement}
 use Rattle.hip_reader.proofs.is_signed.Tie as tie
-use Rattle.hip_reader.proofs.is_signed.Reads as reads
-use Rattle.hip_reader.proofs.is_signed.Lts as lts
 
--- src/lib.rt:41:6
 shared-slice-read-result : tie.Need-shared-slice-read-result
 shared-slice-read-result c = search needs
 
--- src/lib.rt:41:18
 array-read-result : tie.Need-array-read-result
 array-read-result c = search needs
 
--- src/lib.rt:41:35
 shared-slice-read-result-2 : tie.Need-shared-slice-read-result-2
 shared-slice-read-result-2 c = search needs
 
--- src/lib.rt:41:47
 array-read-result-2 : tie.Need-array-read-result-2
 array-read-result-2 c = search needs
 
--- src/lib.rt:41:64
 shared-slice-read-result-3 : tie.Need-shared-slice-read-result-3
 shared-slice-read-result-3 c = search needs
 
--- src/lib.rt:41:76
 array-read-result-3 : tie.Need-array-read-result-3
 array-read-result-3 c = search needs
 
--- src/lib.rt:41:93
 shared-slice-read-result-4 : tie.Need-shared-slice-read-result-4
 shared-slice-read-result-4 c = search needs
 
--- src/lib.rt:41:105
 array-read-result-4 : tie.Need-array-read-result-4
 array-read-result-4 c = search needs
 
--- src/lib.rt:37:1
 returns : tie.Need-returns
 returns c = let start = c .before .before .before .before in
     four-signed (now (start .args .bytes)) (start .pre)

@@ -1,46 +1,33 @@
+-- The four numbers of a descriptor at their places.
 use Rattle.hip_reader.proofs.ReadLaws.{memory-read}
 use borrow.Author.Needs.{needs}
 use Rattle.hip_reader.proofs.memory_at.Statement.{statement}
 use Rattle.hip_reader.proofs.memory_at.Tie as tie
-use Rattle.hip_reader.proofs.memory_at.Reads as reads
-use Rattle.hip_reader.proofs.memory_at.Lts as lts
-use Rattle.endian.proofs.get32.Reads as get32-reads
-use Rattle.endian.proofs.get64.Reads as get64-reads
-use Rattle.endian.proofs.to_signed.Reads as to-signed-reads
 
--- src/lib.rt:126:18
 get64-requires : tie.Need-get64-requires
 get64-requires c κs = search needs
 
--- src/lib.rt:127:36
 add-get64 : tie.Need-add-get64
 add-get64 c = search needs
 
--- src/lib.rt:127:15
 get64-requires-2 : tie.Need-get64-requires-2
 get64-requires-2 c κs = search needs
 
--- src/lib.rt:128:54
 add-get32 : tie.Need-add-get32
 add-get32 c = search needs
 
--- src/lib.rt:128:33
 get32-requires : tie.Need-get32-requires
 get32-requires c κs = search needs
 
--- src/lib.rt:128:15
 to-signed-requires : tie.Need-to-signed-requires
 to-signed-requires c κs = search needs
 
--- src/lib.rt:129:41
 add-get32-2 : tie.Need-add-get32-2
 add-get32-2 c = search needs
 
--- src/lib.rt:129:20
 get32-requires-2 : tie.Need-get32-requires-2
 get32-requires-2 c κs = search needs
 
--- src/lib.rt:121:1
 returns : tie.Need-returns
 returns c = search (memory-read, needs)
 

@@ -1,86 +1,61 @@
+-- Each way out is a test that fails, the last one the summary.
 use denote.Ref.{now}
 use Rattle.hip_reader.proofs.ReadLaws.{answers-short, answers-signature, answers-length, answers-layout, answers-checksum, answers-type, answers-summary, begins}
 use borrow.Author.Needs.{needs}
 use Rattle.hip_reader.proofs.read.Statement.{statement}
 use Rattle.hip_reader.proofs.read.Tie as tie
-use Rattle.hip_reader.proofs.read.Reads as reads
-use Rattle.hip_reader.proofs.read.Lts as lts
-use Rattle.endian.proofs.get16.Reads as get16-reads
-use Rattle.hip_format.proofs.word_sum.Reads as word-sum-reads
-use Rattle.hip_reader.proofs.are_allowed.Reads as are-allowed-reads
-use Rattle.hip_reader.proofs.header_at.Reads as header-at-reads
-use Rattle.hip_reader.proofs.is_laid_out.Reads as is-laid-out-reads
-use Rattle.hip_reader.proofs.is_signed.Reads as is-signed-reads
 
--- src/lib.rt:138:9
 returns : tie.Need-returns
 returns c = search (answers-short, needs)
 
--- src/lib.rt:140:9
 is-signed-requires : tie.Need-is-signed-requires
 is-signed-requires c κs = search needs
 
--- src/lib.rt:141:9
 returns-2 : tie.Need-returns-2
 returns-2 c = search (answers-signature, needs)
 
--- src/lib.rt:143:8
 get16-requires : tie.Need-get16-requires
 get16-requires c κs = search needs
 
--- src/lib.rt:143:8
 cast-if3 : tie.Need-cast-if3
 cast-if3 c = search needs
 
--- src/lib.rt:144:9
 returns-3 : tie.Need-returns-3
 returns-3 c = search (answers-length, needs)
 
--- src/lib.rt:146:9
 is-laid-out-requires : tie.Need-is-laid-out-requires
 is-laid-out-requires c κs = search needs
 
--- src/lib.rt:147:9
 returns-4 : tie.Need-returns-4
 returns-4 c = search (answers-layout, needs)
 
--- src/lib.rt:149:8
 word-sum-requires : tie.Need-word-sum-requires
 word-sum-requires c κs = search needs
 
--- src/lib.rt:150:9
 returns-5 : tie.Need-returns-5
 returns-5 c = search (answers-checksum, needs)
 
--- src/lib.rt:152:17
 get16-requires-2 : tie.Need-get16-requires-2
 get16-requires-2 c κs = search needs
 
--- src/lib.rt:152:17
 cast-start : tie.Need-cast-start
 cast-start c = search needs
 
--- src/lib.rt:153:21
 sub-memories : tie.Need-sub-memories
 sub-memories c = begins _ _ _ (c .before .before .before .before .is-laid-out .ensures) (c .before .before .before .if4 .left) (c .get162 .ensures) .inside
 
--- src/lib.rt:154:9
 are-allowed-requires : tie.Need-are-allowed-requires
 are-allowed-requires c κs = begins _ _ _ (c .before .before .before .before .is-laid-out .ensures) (c .before .before .before .if4 .left) (c .get162 .ensures) .ends
 
--- src/lib.rt:155:9
 returns-6 : tie.Need-returns-6
 returns-6 c = search (answers-type, needs)
 
--- src/lib.rt:158:17
 header-at-requires : tie.Need-header-at-requires
 header-at-requires c κs = search needs
 
--- src/lib.rt:159:16
 sub-t10 : tie.Need-sub-t10
 sub-t10 c = begins _ _ _ (c .before .before .before .before .before .before .before .is-laid-out .ensures) (c .before .before .before .before .before .before .if4 .left) (c .before .before .before .get162 .ensures) .after-header
 
--- src/lib.rt:134:1
 returns-7 : tie.Need-returns-7
 returns-7 c = let at-length = c .before .before .before .before .before .before .before .before .before in
     let start = at-length .before .before .before .before .before in

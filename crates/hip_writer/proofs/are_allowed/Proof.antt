@@ -1,3 +1,4 @@
+-- The types from the next one on decide the rest.
 use Rattle.hip_writer.proofs.RunLaws.{kind-tested}
 use Prim.Native.Nat.{ℕ, _+_, _-_, _≤_}
 use mathlib.Core.Path.{_≡_, refl, sym, ap, _∙_}
@@ -13,10 +14,6 @@ use Rattle.hip_format.specs.Writer.{memoryGiven}
 use Rattle.hip_format.proofs.TypeLaws.{first-refused, first-allowed, none-left}
 use Rattle.hip_writer.proofs.are_allowed.Statement.{statement}
 use Rattle.hip_writer.proofs.are_allowed.Tie as tie
-use Rattle.hip_writer.proofs.are_allowed.Reads as reads
-use Rattle.hip_writer.proofs.are_allowed.Lts as lts
-use Rattle.endian.proofs.to_bits.Reads as to-bits-reads
-use Rattle.hip_format.proofs.is_allowed.Reads as is-allowed-reads
 
 abbrev Inv-loop : tie.InvT-loop
 Inv-loop kinds count i₀ i = (i ≤ count) × (count ≤ length kinds) × ((addresses sizes auxiliaries : List ℕ) → typesAllowed (spaced (memoryGiven addresses sizes kinds auxiliaries) 0 1 count) ≡ typesAllowed (spaced (memoryGiven addresses sizes kinds auxiliaries) i 1 (count - i)))
@@ -24,42 +21,33 @@ Inv-loop kinds count i₀ i = (i ≤ count) × (count ≤ length kinds) × ((add
 abbrev μ-loop : tie.MeasureT-loop
 μ-loop kinds count i₀ i = count - i
 
--- src/lib.rt:56:5
 loop-holds : tie.Need-loop-holds Inv-loop μ-loop
 loop-holds c = (omega arith, c .pre, λ a s x. ap (λ (n : ℕ). typesAllowed (spaced (memoryGiven a s (now (c .args .kinds)) x) 0 1 n)) (omega arith))
 
--- src/lib.rt:57:52
 mul-to-bits : tie.Need-mul-to-bits Inv-loop μ-loop
 mul-to-bits c = omega arith
 
--- src/lib.rt:57:52
 shared-slice-copy-out-to-bits : tie.Need-shared-slice-copy-out-to-bits Inv-loop μ-loop
 shared-slice-copy-out-to-bits c = omega arith
 
--- src/lib.rt:57:36
 to-bits-requires : tie.Need-to-bits-requires Inv-loop μ-loop
 to-bits-requires c κs = tt
 
--- src/lib.rt:57:13
 is-allowed-requires : tie.Need-is-allowed-requires Inv-loop μ-loop
 is-allowed-requires c κs = tt
 
--- src/lib.rt:58:13
 returns : tie.Need-returns Inv-loop μ-loop
 returns c = let turn = c .before .before .before .before .before .loop in
     let start = c .before .before .before .before .before .before in
     let asked = kind-tested (getD (now (start .args .kinds)) (turn .i) (pos 0)) _ _ (record { sfits = c .before .before .before .to-bits-arg .given }) (c .before .before .to-bits .ensures) (c .before .is-allowed .ensures) in
     λ a s x. first-refused (memoryGiven a s (now (start .args .kinds)) x) (turn .i) 1 (start .args .count - turn .i) _ (omega arith) asked (not-true _ (c .if1 .taken)) ∙ sym (turn .inv .2 a s x)
 
--- src/lib.rt:60:9
 add-i : tie.Need-add-i Inv-loop μ-loop
 add-i c = omega arith
 
--- src/lib.rt:56:5
 loop-less : tie.Need-loop-less Inv-loop μ-loop
 loop-less c = omega arith
 
--- src/lib.rt:56:5
 loop-again : tie.Need-loop-again Inv-loop μ-loop
 loop-again c = let turn = c .before .before .before .before .before .loop in
     let start = c .before .before .before .before .before .before in
@@ -73,7 +61,6 @@ loop-again c = let turn = c .before .before .before .before .before .loop in
           ap (λ (n : ℕ). typesAllowed (spaced (memoryGiven a s (now (start .args .kinds)) x) (turn .i + 1) 1 n)) less,
     )
 
--- src/lib.rt:51:1
 returns-2 : tie.Need-returns-2 Inv-loop μ-loop
 returns-2 c = let turn = c .before .loop in
     let start = c .before .before in

@@ -1,3 +1,4 @@
+-- The numbers that the loop has passed are written.
 use Prim.Native.Nat.{_+_, _*_, _-_, _≤_}
 use mathlib.Core.Path.{_≡_, refl, _∙_}
 use native.Mathlib.Omega.{arith}
@@ -9,9 +10,6 @@ use Rattle.hip_format.specs.Format.{bytesOfEach}
 use Rattle.hip_writer.proofs.RunLaws.{none-yet, number-more, numbers-all}
 use Rattle.hip_writer.proofs.put16s.Statement.{statement}
 use Rattle.hip_writer.proofs.put16s.Tie as tie
-use Rattle.hip_writer.proofs.put16s.Reads as reads
-use Rattle.hip_writer.proofs.put16s.Lts as lts
-use Rattle.endian.proofs.put16.Reads as put16-reads
 
 abbrev Inv-loop : tie.InvT-loop
 Inv-loop buffer₀ at numbers i₀ buffer i = (i ≤ length numbers) × (at + 2 * length numbers ≤ length buffer₀) × (length buffer ≡ length buffer₀) × (buffer ≡ written buffer₀ at (bytesOfEach (bytesOf 2) (take i numbers)))
@@ -19,40 +17,31 @@ Inv-loop buffer₀ at numbers i₀ buffer i = (i ≤ length numbers) × (at + 2 
 abbrev μ-loop : tie.MeasureT-loop
 μ-loop buffer₀ at numbers i₀ buffer i = length numbers - i
 
--- src/lib.rt:71:5
 loop-holds : tie.Need-loop-holds Inv-loop μ-loop
 loop-holds c = let start = c .before .before in
     (omega arith, start .pre, refl, none-yet 2 (now (start .args .buffer)) (start .args .at) (now (start .args .numbers)))
 
--- src/lib.rt:72:36
 mul-put16 : tie.Need-mul-put16 Inv-loop μ-loop
 mul-put16 c = omega arith
 
--- src/lib.rt:72:31
 add-put16 : tie.Need-add-put16 Inv-loop μ-loop
 add-put16 c = omega arith
 
--- src/lib.rt:72:43
 mul-put16-2 : tie.Need-mul-put16-2 Inv-loop μ-loop
 mul-put16-2 c = omega arith
 
--- src/lib.rt:72:43
 shared-slice-read-put16 : tie.Need-shared-slice-read-put16 Inv-loop μ-loop
 shared-slice-read-put16 c = omega arith
 
--- src/lib.rt:72:9
 put16-requires : tie.Need-put16-requires Inv-loop μ-loop
 put16-requires c κs = omega arith
 
--- src/lib.rt:73:9
 add-i : tie.Need-add-i Inv-loop μ-loop
 add-i c = omega arith
 
--- src/lib.rt:71:5
 loop-less : tie.Need-loop-less Inv-loop μ-loop
 loop-less c = omega arith
 
--- src/lib.rt:71:5
 loop-again : tie.Need-loop-again Inv-loop μ-loop
 loop-again c = let turn = c .before .before .before .before .before .before .loop in
     let start = c .before .before .before .before .before .before .before .before .before in (
@@ -62,11 +51,9 @@ loop-again c = let turn = c .before .before .before .before .before .before .loo
       number-more 2 (now (start .args .buffer)) (start .args .at) (now (start .args .numbers)) (turn .buffer) _ (turn .i) (omega arith) (omega arith) (turn .inv .3) (c .before .before .put16 .ensures),
     )
 
--- src/lib.rt:66:1
 same-length : tie.Need-same-length Inv-loop μ-loop
 same-length c = omega arith
 
--- src/lib.rt:66:1
 returns : tie.Need-returns Inv-loop μ-loop
 returns c = let turn = c .before .loop in
     let start = c .before .before .before .before in

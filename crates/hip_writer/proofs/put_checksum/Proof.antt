@@ -1,3 +1,4 @@
+-- The sum is that of the page without its checksum.
 use native.Mathlib.Omega.{arith}
 use mathlib.Core.Path.{sym, ap, _∙_}
 use Prim.Native.Nat.{ℕ, _-_, _%_}
@@ -9,42 +10,30 @@ use Rattle.hip_format.specs.Format.{complement}
 use borrow.Author.Needs.{needs}
 use Rattle.hip_writer.proofs.put_checksum.Statement.{statement}
 use Rattle.hip_writer.proofs.put_checksum.Tie as tie
-use Rattle.hip_writer.proofs.put_checksum.Reads as reads
-use Rattle.hip_writer.proofs.put_checksum.Lts as lts
-use Rattle.endian.proofs.put16.Reads as put16-reads
-use Rattle.hip_format.proofs.word_sum.Reads as word-sum-reads
 
--- src/lib.rt:163:36
 slice-reshare-prefix-word-sum : tie.Need-slice-reshare-prefix-word-sum
 slice-reshare-prefix-word-sum c = search needs
 
--- src/lib.rt:163:36
 slice-aggregate-word-sum : tie.Need-slice-aggregate-word-sum
 slice-aggregate-word-sum c = let start = c .before .before in
     sym (length-take-le (start .args .size) (now (start .args .buffer)) (start .pre .2))
 
--- src/lib.rt:163:15
 word-sum-requires : tie.Need-word-sum-requires
 word-sum-requires c κs = let start = c .before .before in
     rw (length-take-le (start .args .size) (now (start .args .buffer)) (start .pre .2)) (start .pre .1)
 
--- src/lib.rt:164:39
 sub-put16 : tie.Need-sub-put16
 sub-put16 c = search needs
 
--- src/lib.rt:164:37
 cast-put16 : tie.Need-cast-put16
 cast-put16 c = search needs
 
--- src/lib.rt:164:5
 put16-requires : tie.Need-put16-requires
 put16-requires c κs = search needs
 
--- src/lib.rt:159:1
 same-length : tie.Need-same-length
 same-length c = search needs
 
--- src/lib.rt:159:1
 returns : tie.Need-returns
 returns c = let start = c .before .before .before .before .before .before .before in
     c .before .before .put16 .ensures ∙ ap (λ (sum : ℕ). written (now (start .args .buffer)) 4 (bytesOf 2 (complement sum))) (c .before .before .before .before .word-sum .ensures)

@@ -1,3 +1,4 @@
+-- The signature, then the numbers of 16 bits, then those of 32.
 use mathlib.Core.List.{[], _∷_}
 use Rattle.hip_format.specs.Format.{signature, headerSize, cpuSize, memorySize, fields}
 use mathlib.Core.Path.{refl}
@@ -6,41 +7,28 @@ use Rattle.hip_writer.proofs.RunLaws.{header-written}
 use borrow.Author.Needs.{needs}
 use Rattle.hip_writer.proofs.put_header.Statement.{statement}
 use Rattle.hip_writer.proofs.put_header.Tie as tie
-use Rattle.hip_writer.proofs.put_header.Reads as reads
-use Rattle.hip_writer.proofs.put_header.Lts as lts
-use Rattle.endian.proofs.put_bytes.Reads as put-bytes-reads
-use Rattle.hip_writer.proofs.put16s.Reads as put16s-reads
-use Rattle.hip_writer.proofs.put32s.Reads as put32s-reads
 
--- src/lib.rt:96:34
 slice-aggregate-put-bytes : tie.Need-slice-aggregate-put-bytes
 slice-aggregate-put-bytes c = search needs
 
--- src/lib.rt:96:5
 put-bytes-requires : tie.Need-put-bytes-requires
 put-bytes-requires c κs = search needs
 
--- src/lib.rt:98:30
 slice-aggregate-put16s : tie.Need-slice-aggregate-put16s
 slice-aggregate-put16s c = search needs
 
--- src/lib.rt:98:5
 put16s-requires : tie.Need-put16s-requires
 put16s-requires c κs = search needs
 
--- src/lib.rt:111:28
 slice-aggregate-put32s : tie.Need-slice-aggregate-put32s
 slice-aggregate-put32s c = search needs
 
--- src/lib.rt:111:5
 put32s-requires : tie.Need-put32s-requires
 put32s-requires c κs = search needs
 
--- src/lib.rt:89:1
 same-length : tie.Need-same-length
 same-length c = search needs
 
--- src/lib.rt:89:1
 returns : tie.Need-returns
 returns c = let middle = c .before .before .before .before .before .before .before in
     let start = middle .before .before .before .before .before .before .before .before .before in

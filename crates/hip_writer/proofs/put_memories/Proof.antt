@@ -1,3 +1,4 @@
+-- The descriptors that the loop has passed are written.
 use Prim.Native.Nat.{ℕ, _+_, _*_, _-_, _≤_}
 use mathlib.Core.Path.{_≡_, refl, ap, _∙_}
 use mathlib.Core.List.{List}
@@ -14,9 +15,6 @@ use Rattle.hip_format.specs.Writer.{memoryGiven, shortest}
 use Rattle.hip_writer.proofs.RunLaws.{no-memory-yet, memory-more, kind-stored}
 use Rattle.hip_writer.proofs.put_memories.Statement.{statement}
 use Rattle.hip_writer.proofs.put_memories.Tie as tie
-use Rattle.hip_writer.proofs.put_memories.Reads as reads
-use Rattle.hip_writer.proofs.put_memories.Lts as lts
-use Rattle.hip_writer.proofs.put_memory.Reads as put-memory-reads
 
 abbrev Inv-loop : tie.InvT-loop
 Inv-loop buffer₀ at addresses sizes kinds auxiliaries count i₀ buffer i = (i ≤ count) × (at + 24 * count ≤ length buffer₀) × (count ≤ shortest addresses sizes kinds auxiliaries) × (length buffer ≡ length buffer₀) × (buffer ≡ written buffer₀ at (bytesOfEach memoryBytes (spaced (memoryGiven addresses sizes kinds auxiliaries) 0 1 i)))
@@ -24,64 +22,49 @@ Inv-loop buffer₀ at addresses sizes kinds auxiliaries count i₀ buffer i = (i
 abbrev μ-loop : tie.MeasureT-loop
 μ-loop buffer₀ at addresses sizes kinds auxiliaries count i₀ buffer i = count - i
 
--- src/lib.rt:146:5
 loop-holds : tie.Need-loop-holds Inv-loop μ-loop
 loop-holds c = let start = c .before .before .before .before in
     (omega arith, start .pre .0, start .pre .1, refl, no-memory-yet (now (start .args .buffer)) (start .args .at) (memoryGiven (now (start .args .addresses)) (now (start .args .sizes)) (now (start .args .kinds)) (now (start .args .auxiliaries))))
 
--- src/lib.rt:149:18
 mul-put-memory : tie.Need-mul-put-memory Inv-loop μ-loop
 mul-put-memory c = omega arith
 
--- src/lib.rt:149:13
 add-put-memory : tie.Need-add-put-memory Inv-loop μ-loop
 add-put-memory c = omega arith
 
--- src/lib.rt:150:13
 mul-put-memory-2 : tie.Need-mul-put-memory-2 Inv-loop μ-loop
 mul-put-memory-2 c = omega arith
 
--- src/lib.rt:150:13
 shared-slice-read-put-memory : tie.Need-shared-slice-read-put-memory Inv-loop μ-loop
 shared-slice-read-put-memory c = omega arith
 
--- src/lib.rt:151:13
 mul-put-memory-3 : tie.Need-mul-put-memory-3 Inv-loop μ-loop
 mul-put-memory-3 c = omega arith
 
--- src/lib.rt:151:13
 shared-slice-read-put-memory-2 : tie.Need-shared-slice-read-put-memory-2 Inv-loop μ-loop
 shared-slice-read-put-memory-2 c = omega arith
 
--- src/lib.rt:152:13
 mul-put-memory-4 : tie.Need-mul-put-memory-4 Inv-loop μ-loop
 mul-put-memory-4 c = omega arith
 
--- src/lib.rt:152:13
 shared-slice-copy-out-put-memory : tie.Need-shared-slice-copy-out-put-memory Inv-loop μ-loop
 shared-slice-copy-out-put-memory c = omega arith
 
--- src/lib.rt:153:13
 mul-put-memory-5 : tie.Need-mul-put-memory-5 Inv-loop μ-loop
 mul-put-memory-5 c = omega arith
 
--- src/lib.rt:153:13
 shared-slice-read-put-memory-3 : tie.Need-shared-slice-read-put-memory-3 Inv-loop μ-loop
 shared-slice-read-put-memory-3 c = omega arith
 
--- src/lib.rt:147:9
 put-memory-requires : tie.Need-put-memory-requires Inv-loop μ-loop
 put-memory-requires c κs = omega arith
 
--- src/lib.rt:155:9
 add-i : tie.Need-add-i Inv-loop μ-loop
 add-i c = omega arith
 
--- src/lib.rt:146:5
 loop-less : tie.Need-loop-less Inv-loop μ-loop
 loop-less c = omega arith
 
--- src/lib.rt:146:5
 loop-again : tie.Need-loop-again Inv-loop μ-loop
 loop-again c = let turn = c .before .before .before .before .before .before .before .before .before .loop in
     let start = c .before .before .before .before .before .before .before .before .before .before .before .before .before .before in
@@ -95,11 +78,9 @@ loop-again c = let turn = c .before .before .before .before .before .before .bef
           (turn .buffer) _ (turn .i) (omega arith) (turn .inv .4) stored,
     )
 
--- src/lib.rt:129:1
 same-length : tie.Need-same-length Inv-loop μ-loop
 same-length c = omega arith
 
--- src/lib.rt:129:1
 returns : tie.Need-returns Inv-loop μ-loop
 returns c = let turn = c .before .loop in
     let start = c .before .before .before .before .before .before in

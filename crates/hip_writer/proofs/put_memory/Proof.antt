@@ -1,51 +1,37 @@
+-- The four numbers one after the other.
 use denote.Ref.{now}
 use Rattle.hip_writer.proofs.RunLaws.{memory-written}
 use borrow.Author.Needs.{needs}
 use Rattle.hip_writer.proofs.put_memory.Statement.{statement}
 use Rattle.hip_writer.proofs.put_memory.Tie as tie
-use Rattle.hip_writer.proofs.put_memory.Reads as reads
-use Rattle.hip_writer.proofs.put_memory.Lts as lts
-use Rattle.endian.proofs.put32.Reads as put32-reads
-use Rattle.endian.proofs.put64.Reads as put64-reads
-use Rattle.endian.proofs.to_bits.Reads as to-bits-reads
 
--- src/lib.rt:122:5
 put64-requires : tie.Need-put64-requires
 put64-requires c κs = search needs
 
--- src/lib.rt:123:27
 add-put64 : tie.Need-add-put64
 add-put64 c = search needs
 
--- src/lib.rt:123:5
 put64-requires-2 : tie.Need-put64-requires-2
 put64-requires-2 c κs = search needs
 
--- src/lib.rt:124:27
 add-put32 : tie.Need-add-put32
 add-put32 c = search needs
 
--- src/lib.rt:124:36
 to-bits-requires : tie.Need-to-bits-requires
 to-bits-requires c κs = search needs
 
--- src/lib.rt:124:5
 put32-requires : tie.Need-put32-requires
 put32-requires c κs = search needs
 
--- src/lib.rt:125:27
 add-put32-2 : tie.Need-add-put32-2
 add-put32-2 c = search needs
 
--- src/lib.rt:125:5
 put32-requires-2 : tie.Need-put32-requires-2
 put32-requires-2 c κs = search needs
 
--- src/lib.rt:116:1
 same-length : tie.Need-same-length
 same-length c = search needs
 
--- src/lib.rt:116:1
 returns : tie.Need-returns
 returns c = let last = c .before .before .before .before .before .before in
     let first = last .before .before .before .before .before .before .before .before .before in

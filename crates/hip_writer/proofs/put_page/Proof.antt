@@ -1,3 +1,4 @@
+-- The parts one after the other, and the checksum over 0.
 use mathlib.Core.Path.{refl, sym}
 use Prim.Native.Nat.{_-_}
 use native.Mathlib.Omega.{arith}
@@ -7,60 +8,42 @@ use Rattle.hip_writer.proofs.RunLaws.{page-written}
 use borrow.Author.Needs.{needs}
 use Rattle.hip_writer.proofs.put_page.Statement.{statement}
 use Rattle.hip_writer.proofs.put_page.Tie as tie
-use Rattle.hip_writer.proofs.put_page.Reads as reads
-use Rattle.hip_writer.proofs.put_page.Lts as lts
-use Rattle.endian.proofs.put_bytes.Reads as put-bytes-reads
-use Rattle.hip_writer.proofs.put_checksum.Reads as put-checksum-reads
-use Rattle.hip_writer.proofs.put_header.Reads as put-header-reads
-use Rattle.hip_writer.proofs.put_memories.Reads as put-memories-reads
 
--- src/lib.rt:188:24
 mul-size : tie.Need-mul-size
 mul-size c = search needs
 
--- src/lib.rt:188:16
 add-size : tie.Need-add-size
 add-size c = search needs
 
--- src/lib.rt:189:32
 cast-put-header : tie.Need-cast-put-header
 cast-put-header c = search needs
 
--- src/lib.rt:189:45
 cast-put-header-2 : tie.Need-cast-put-header-2
 cast-put-header-2 c = search needs
 
--- src/lib.rt:189:5
 put-header-requires : tie.Need-put-header-requires
 put-header-requires c κs = search needs
 
--- src/lib.rt:190:21
 sub-cpu-bytes : tie.Need-sub-cpu-bytes
 sub-cpu-bytes c = search needs
 
--- src/lib.rt:191:44
 slice-aggregate-put-bytes : tie.Need-slice-aggregate-put-bytes
 slice-aggregate-put-bytes c = let start = c .before .before .before .before .before .before .before .before .before .before .before in
     sym (length-take-le (start .args .start - 56) (now (start .args .cpus)) (omega (arith, start .pre .0)))
 
--- src/lib.rt:191:5
 put-bytes-requires : tie.Need-put-bytes-requires
 put-bytes-requires c κs = let start = c .before .before .before .before .before .before .before .before .before .before .before in
     rw (length-take-le (start .args .start - 56) (now (start .args .cpus)) (omega (arith, start .pre .0))) (omega (arith, start .pre))
 
--- src/lib.rt:192:5
 put-memories-requires : tie.Need-put-memories-requires
 put-memories-requires c κs = search needs
 
--- src/lib.rt:193:5
 put-checksum-requires : tie.Need-put-checksum-requires
 put-checksum-requires c κs = search needs
 
--- src/lib.rt:168:1
 same-length : tie.Need-same-length
 same-length c = search needs
 
--- src/lib.rt:168:1
 returns : tie.Need-returns
 returns c = let third = c .before .before .before .before .before .before in
     let first = third .before .before .before .before .before .before .before .before .before in

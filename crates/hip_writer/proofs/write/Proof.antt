@@ -1,73 +1,55 @@
+-- Each way out is a test that refuses, the last one the page.
 use native.Mathlib.Omega.{arith}
 use denote.Ref.{now}
 use Rattle.hip_writer.proofs.RunLaws.{answers-type, answers-large, answers-room, answers-done}
 use borrow.Author.Needs.{needs}
 use Rattle.hip_writer.proofs.write.Statement.{statement}
 use Rattle.hip_writer.proofs.write.Tie as tie
-use Rattle.hip_writer.proofs.write.Reads as reads
-use Rattle.hip_writer.proofs.write.Lts as lts
-use Rattle.hip_writer.proofs.are_allowed.Reads as are-allowed-reads
-use Rattle.hip_writer.proofs.count_of.Reads as count-of-reads
-use Rattle.hip_writer.proofs.put_page.Reads as put-page-reads
 
--- src/lib.rt:212:9
 count-of-requires : tie.Need-count-of-requires
 count-of-requires c κs = search needs
 
--- src/lib.rt:213:9
 are-allowed-requires : tie.Need-are-allowed-requires
 are-allowed-requires c κs = search needs
 
--- src/lib.rt:214:9
 returns : tie.Need-returns
 returns c = let start = c .before .before .before .before .before .before .before .before in
     answers-type (start .args .header) (now (start .args .cpus)) (now (start .args .addresses)) (now (start .args .sizes)) (now (start .args .kinds)) (now (start .args .auxiliaries)) (now (start .args .buffer)) (c .before .before .count-of .result) (c .before .before .count-of .ensures) _ (c .before .are-allowed .ensures) (c .if1 .taken)
 
--- src/lib.rt:218:9
 returns-2 : tie.Need-returns-2
 returns-2 c = let start = c .before .before .before .before .before .before .before .before .before in
     answers-large (start .args .header) (now (start .args .cpus)) (now (start .args .addresses)) (now (start .args .sizes)) (now (start .args .kinds)) (now (start .args .auxiliaries)) (now (start .args .buffer)) (c .before .before .before .count-of .result) (c .before .before .before .count-of .ensures) _ (c .before .before .are-allowed .ensures) (c .before .if1 .left) (omega arith)
 
--- src/lib.rt:221:9
 returns-3 : tie.Need-returns-3
 returns-3 c = let start = c .before .before .before .before .before .before .before .before .before .before in
     answers-large (start .args .header) (now (start .args .cpus)) (now (start .args .addresses)) (now (start .args .sizes)) (now (start .args .kinds)) (now (start .args .auxiliaries)) (now (start .args .buffer)) (c .before .before .before .before .count-of .result) (c .before .before .before .before .count-of .ensures) _ (c .before .before .before .are-allowed .ensures) (c .before .before .if1 .left) (omega arith)
 
--- src/lib.rt:223:31
 mul-start : tie.Need-mul-start
 mul-start c = search needs
 
--- src/lib.rt:223:17
 add-start : tie.Need-add-start
 add-start c = search needs
 
--- src/lib.rt:224:24
 mul-size : tie.Need-mul-size
 mul-size c = search needs
 
--- src/lib.rt:224:16
 add-size : tie.Need-add-size
 add-size c = search needs
 
--- src/lib.rt:226:9
 returns-4 : tie.Need-returns-4
 returns-4 c = let start = c .before .before .before .before .before .before .before .before .before .before .before in
     answers-large (start .args .header) (now (start .args .cpus)) (now (start .args .addresses)) (now (start .args .sizes)) (now (start .args .kinds)) (now (start .args .auxiliaries)) (now (start .args .buffer)) (c .before .before .before .before .before .count-of .result) (c .before .before .before .before .before .count-of .ensures) _ (c .before .before .before .before .are-allowed .ensures) (c .before .before .before .if1 .left) (omega arith)
 
--- src/lib.rt:229:9
 returns-5 : tie.Need-returns-5
 returns-5 c = let start = c .before .before .before .before .before .before .before .before .before .before .before .before in
     answers-room (start .args .header) (now (start .args .cpus)) (now (start .args .addresses)) (now (start .args .sizes)) (now (start .args .kinds)) (now (start .args .auxiliaries)) (now (start .args .buffer)) (c .before .before .before .before .before .before .count-of .result) (c .before .before .before .before .before .before .count-of .ensures) _ (c .before .before .before .before .before .are-allowed .ensures) (c .before .before .before .before .if1 .left) (omega arith) (omega arith)
 
--- src/lib.rt:231:19
 put-page-requires : tie.Need-put-page-requires
 put-page-requires c κs = search needs
 
--- src/lib.rt:199:1
 same-length : tie.Need-same-length
 same-length c = search needs
 
--- src/lib.rt:199:1
 returns-6 : tie.Need-returns-6
 returns-6 c = let start = c .before .before .before .before .before .before .before .before .before .before .before .before .before .before .before .before in
     answers-done (start .args .header) (now (start .args .cpus)) (now (start .args .addresses)) (now (start .args .sizes)) (now (start .args .kinds)) (now (start .args .auxiliaries)) (now (start .args .buffer)) (c .before .before .before .before .before .before .before .before .before .before .count-of .result) (c .before .before .before .before .before .before .before .before .before .before .count-of .ensures) _ (c .before .before .before .before .before .before .before .before .before .are-allowed .ensures) (c .before .before .before .before .before .before .before .before .if1 .left) _ _ (omega arith) (omega arith) (c .before .before .put-page .ensures .0) (c .before .before .put-page .ensures .1)
