@@ -228,7 +228,7 @@ pub fn write(
     if buffer.len() < size {
         return Written::Room;
     }
-    Written::Done(put_page(
+    let done = put_page(
         buffer,
         header,
         cpus,
@@ -238,5 +238,6 @@ pub fn write(
         auxiliaries,
         start,
         memories,
-    ))
+    );
+    Written::Done(done)
 }

@@ -13,8 +13,7 @@ are-allowed-requires : tie.Need-are-allowed-requires
 are-allowed-requires c κs = search needs
 
 returns : tie.Need-returns
-returns c = let start = c .before .before .before .before .before .before .before .before in
-    answers-type (start .args .header) (now (start .args .cpus)) (now (start .args .addresses)) (now (start .args .sizes)) (now (start .args .kinds)) (now (start .args .auxiliaries)) (now (start .args .buffer)) (c .before .before .count-of .result) (c .before .before .count-of .ensures) _ (c .before .are-allowed .ensures) (c .if1 .taken)
+returns c = search (answers-type, needs)
 
 returns-2 : tie.Need-returns-2
 returns-2 c = let start = c .before .before .before .before .before .before .before .before .before in
@@ -37,12 +36,10 @@ add-size : tie.Need-add-size
 add-size c = search needs
 
 returns-4 : tie.Need-returns-4
-returns-4 c = let start = c .before .before .before .before .before .before .before .before .before .before .before in
-    answers-large (start .args .header) (now (start .args .cpus)) (now (start .args .addresses)) (now (start .args .sizes)) (now (start .args .kinds)) (now (start .args .auxiliaries)) (now (start .args .buffer)) (c .before .before .before .before .before .count-of .result) (c .before .before .before .before .before .count-of .ensures) _ (c .before .before .before .before .are-allowed .ensures) (c .before .before .before .if1 .left) (omega arith)
+returns-4 c = search (answers-large, needs)
 
 returns-5 : tie.Need-returns-5
-returns-5 c = let start = c .before .before .before .before .before .before .before .before .before .before .before .before in
-    answers-room (start .args .header) (now (start .args .cpus)) (now (start .args .addresses)) (now (start .args .sizes)) (now (start .args .kinds)) (now (start .args .auxiliaries)) (now (start .args .buffer)) (c .before .before .before .before .before .before .count-of .result) (c .before .before .before .before .before .before .count-of .ensures) _ (c .before .before .before .before .before .are-allowed .ensures) (c .before .before .before .before .if1 .left) (omega arith) (omega arith)
+returns-5 c = search (answers-room, needs)
 
 put-page-requires : tie.Need-put-page-requires
 put-page-requires c κs = search needs
