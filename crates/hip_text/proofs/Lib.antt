@@ -1,0 +1,2 @@
+-- What is proved of the text of a page.
+pub mod LineLaws

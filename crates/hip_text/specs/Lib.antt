@@ -1,0 +1,2 @@
+-- What the contracts of the functions that print a page cite.
+pub mod PageText
