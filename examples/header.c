@@ -1,6 +1,6 @@
-/* Holds what the header computes, and the pages that boot lends the root, against the words
- * of the manual, and each hypercall by its name against the general one. Prints the first
- * line that differs. */
+/* Holds what the header computes, the pages that boot lends the root and the information page
+ * against the words and bytes of the manual, and each hypercall by its name against the
+ * general one. Prints the first line that differs. */
 #include "rudozhev.h"
 
 #include <stdio.h>
@@ -318,7 +318,246 @@ static void refusals(void) {
     HOLDS(rudozhev_status(rudozhev_call(&tables, CALLER, 38, &source, &target)) == RUDOZHEV_BAD_PAR);
 }
 
+/* The manual's information page. */
+static const uint8_t manual_page[] = {
+    0x4e, 0x4f, 0x56, 0x41, 0xca, 0x75, 0xf0, 0x00, /* signature, checksum, length */
+    0x38, 0x00, 0x04, 0x00, 0x48, 0x00, 0x18, 0x00, /* offsets and sizes */
+    0x01, 0x00, 0x00, 0x00, 0x05, 0x00, 0x00, 0x00, /* features, API version */
+    0x00, 0x01, 0x00, 0x00, 0x20, 0x00, 0x00, 0x00, /* SEL, EXC */
+    0xd0, 0x00, 0x00, 0x00, 0x18, 0x00, 0x00, 0x00, /* VMI, GSI */
+    0x00, 0x10, 0x40, 0x00, 0x00, 0x10, 0x00, 0x00, /* sizes of pages and UTCBs */
+    0x80, 0x9f, 0x28, 0x00, 0xa0, 0x86, 0x01, 0x00, /* frequencies */
+    0x01, 0x00, 0x00, 0x00, 0x01, 0x01, 0x00, 0x00, /* CPUs 0 and 1 */
+    0x01, 0x00, 0x01, 0x00, 0x00, 0x01, 0x03, 0x02, /* CPUs 2 and 3 */
+    0x00, 0x00, 0x00, 0x00, 0x00, 0x00, 0x00, 0x00, /* address of range 0 */
+    0x00, 0xfc, 0x09, 0x00, 0x00, 0x00, 0x00, 0x00, /* its size */
+    0x01, 0x00, 0x00, 0x00, 0x00, 0x00, 0x00, 0x00, /* its type and auxiliary number */
+    0x00, 0x00, 0x10, 0x00, 0x00, 0x00, 0x00, 0x00, /* address of range 1 */
+    0x00, 0x00, 0xe0, 0xbf, 0x00, 0x00, 0x00, 0x00, /* its size */
+    0x01, 0x00, 0x00, 0x00, 0x00, 0x00, 0x00, 0x00, /* its type and auxiliary number */
+    0x00, 0x00, 0xf0, 0xbf, 0x00, 0x00, 0x00, 0x00, /* address of range 2 */
+    0x00, 0x00, 0x01, 0x00, 0x00, 0x00, 0x00, 0x00, /* its size */
+    0x03, 0x00, 0x00, 0x00, 0x00, 0x00, 0x00, 0x00, /* its type and auxiliary number */
+    0x00, 0x00, 0xf1, 0xbf, 0x00, 0x00, 0x00, 0x00, /* address of range 3 */
+    0x00, 0x00, 0x0f, 0x00, 0x00, 0x00, 0x00, 0x00, /* its size */
+    0x04, 0x00, 0x00, 0x00, 0x00, 0x00, 0x00, 0x00, /* its type and auxiliary number */
+    0x00, 0x00, 0xe0, 0xfe, 0x00, 0x00, 0x00, 0x00, /* address of range 4 */
+    0x00, 0x10, 0x00, 0x00, 0x00, 0x00, 0x00, 0x00, /* its size */
+    0x02, 0x00, 0x00, 0x00, 0x00, 0x00, 0x00, 0x00, /* its type and auxiliary number */
+    0x00, 0x00, 0x20, 0x00, 0x00, 0x00, 0x00, 0x00, /* address of range 5 */
+    0x00, 0x00, 0x08, 0x00, 0x00, 0x00, 0x00, 0x00, /* its size */
+    0xff, 0xff, 0xff, 0xff, 0x00, 0x00, 0x00, 0x00, /* its type and auxiliary number */
+    0x00, 0x00, 0x40, 0x00, 0x00, 0x00, 0x00, 0x00, /* address of range 6 */
+    0x00, 0x60, 0x00, 0x00, 0x00, 0x00, 0x00, 0x00, /* its size */
+    0xfe, 0xff, 0xff, 0xff, 0x00, 0x00, 0x30, 0x00, /* its type and auxiliary number */
+};
+
+/* What it is written from; the lists have a number more than the page has ranges. */
+enum { PAGE_BYTES = sizeof manual_page, PAGE_CPUS = 4, PAGE_RANGES = 7 };
+static const struct rudozhev_hip_header page_header = {{
+    [RUDOZHEV_HIP_FEATURES] = 1,
+    [RUDOZHEV_HIP_API_VERSION] = 5,
+    [RUDOZHEV_HIP_SEL] = 256,
+    [RUDOZHEV_HIP_EXC] = 32,
+    [RUDOZHEV_HIP_VMI] = 208,
+    [RUDOZHEV_HIP_GSI] = 24,
+    [RUDOZHEV_HIP_PAGE_SIZES] = 1 << 12 | 1 << 22,
+    [RUDOZHEV_HIP_UTCB_SIZES] = 1 << 12,
+    [RUDOZHEV_HIP_TSC_FREQUENCY] = 2662272,
+    [RUDOZHEV_HIP_BUS_FREQUENCY] = 100000,
+}};
+static const struct rudozhev_hip_cpu_descriptor page_cpus[] = {
+    {1, 0, 0, 0}, {1, 1, 0, 0}, {1, 0, 1, 0}, {0, 1, 3, 2}, {9, 9, 9, 9}};
+static const uint64_t page_addresses[] = {0, 1048576, 3220176896, 3220242432, 4276092928, 2097152, 4194304, 9};
+static const uint64_t page_sizes[] = {654336, 3219128320, 65536, 983040, 4096, 524288, 24576, 9};
+static const int32_t page_types[] = {
+    RUDOZHEV_HIP_AVAILABLE, RUDOZHEV_HIP_AVAILABLE,       RUDOZHEV_HIP_ACPI_RECLAIM,     RUDOZHEV_HIP_ACPI_NVS,
+    RUDOZHEV_HIP_RESERVED,  RUDOZHEV_HIP_MICROHYPERVISOR, RUDOZHEV_HIP_MULTIBOOT_MODULE, RUDOZHEV_HIP_NO_TYPE};
+static const uint32_t page_auxiliaries[] = {0, 0, 0, 0, 0, 0, 3145728, 9};
+
+/* More than the longest page, and lists for it. */
+static uint8_t page[RUDOZHEV_HIP_GREATEST_LENGTH + 1], page_before[sizeof page];
+enum { MOST_CPUS = 16369, MOST_RANGES = 2728 };
+static struct rudozhev_hip_cpu_descriptor many_cpus[MOST_CPUS + 1];
+static uint64_t many_numbers[MOST_RANGES + 1];
+static int32_t many_types[MOST_RANGES + 1];
+static uint32_t many_auxiliaries[MOST_RANGES + 1];
+
+static void page_numbers(void) {
+    HOLDS(RUDOZHEV_HIP_HEADER_BYTES == 56 && RUDOZHEV_HIP_CPU_BYTES == 4 && RUDOZHEV_HIP_MEMORY_BYTES == 24);
+    HOLDS(RUDOZHEV_HIP_GREATEST_LENGTH == 65535 && RUDOZHEV_HIP_FIELDS == 10);
+    HOLDS(RUDOZHEV_HIP_ACCEPTED == 0 && RUDOZHEV_HIP_SHORT == 1 && RUDOZHEV_HIP_SIGNATURE == 2);
+    HOLDS(RUDOZHEV_HIP_LENGTH == 3 && RUDOZHEV_HIP_LAYOUT == 4 && RUDOZHEV_HIP_CHECKSUM == 5);
+    HOLDS(RUDOZHEV_HIP_TYPE == 6 && RUDOZHEV_HIP_LARGE == 7 && RUDOZHEV_HIP_ROOM == 8);
+    HOLDS(RUDOZHEV_HIP_MULTIBOOT_MODULE == -2 && RUDOZHEV_HIP_MICROHYPERVISOR == -1 && RUDOZHEV_HIP_NO_TYPE == 0);
+    HOLDS(RUDOZHEV_HIP_AVAILABLE == 1 && RUDOZHEV_HIP_RESERVED == 2);
+    HOLDS(RUDOZHEV_HIP_ACPI_RECLAIM == 3 && RUDOZHEV_HIP_ACPI_NVS == 4);
+    /* The archive takes these as ten words, four bytes and three long words. */
+    HOLDS(sizeof(struct rudozhev_hip_header) == 40 && sizeof(struct rudozhev_hip_numbers) == 24);
+    HOLDS(sizeof(struct rudozhev_hip_cpu_descriptor) == RUDOZHEV_HIP_CPU_BYTES);
+    const uint64_t reply = UINT64_C(2728) << 16 | 16369;
+    HOLDS(rudozhev_hip_cpus(reply) == 16369 && rudozhev_hip_memories(reply) == 2728);
+    HOLDS(rudozhev_hip_refused(reply) == RUDOZHEV_HIP_ACCEPTED);
+    HOLDS(rudozhev_hip_refused(UINT64_C(8) << 32) == RUDOZHEV_HIP_ROOM && rudozhev_hip_written(UINT64_C(8) << 32) == 0);
+    HOLDS(rudozhev_hip_written(65532) == 65532);
+}
+
+/* Writes the manual's page with these types into so many bytes. */
+static uint64_t written_with(const int32_t *types, size_t bytes) {
+    const struct rudozhev_hip_lists lists = {page_addresses, page_sizes, types, page_auxiliaries, PAGE_RANGES};
+    return rudozhev_hip_write_page(&page_header, page_cpus, PAGE_CPUS, &lists, page, bytes);
+}
+
+/* Whether so many bytes of the page are refused so, by every function that reads them, with all as it was. */
+static bool is_refused(size_t bytes, enum rudozhev_hip_refusal refusal) {
+    struct rudozhev_hip_header header = page_header;
+    struct rudozhev_hip_cpu_descriptor cpu = {5, 6, 7, 8};
+    struct rudozhev_hip_memory_descriptor range = {5, 6, RUDOZHEV_HIP_NO_TYPE, 8};
+    struct rudozhev_hip_numbers numbers = {5, 6, 7};
+    header.fields[0] = 5;
+    const uint64_t reply = rudozhev_hip_read(page, bytes, &header);
+    return rudozhev_hip_refused(reply) == refusal && rudozhev_hip_cpus(reply) == 0 &&
+           rudozhev_hip_memories(reply) == 0 && header.fields[0] == 5 &&
+           memcmp(header.fields + 1, page_header.fields + 1, sizeof header - 4) == 0 &&
+           rudozhev_hip_cpu(page, bytes, 0) == 0 && !rudozhev_hip_find_cpu(page, bytes, 0, &cpu) && cpu.flags == 5 &&
+           cpu.package == 8 && rudozhev_hip_memory(page, bytes, 0, &numbers) == RUDOZHEV_HIP_NO_TYPE &&
+           numbers.address == 5 && numbers.size == 6 && numbers.auxiliary == 7 &&
+           !rudozhev_hip_find_memory(page, bytes, 0, &range) && range.address == 5 && range.auxiliary == 8;
+}
+
+static void read_page(void) {
+    struct rudozhev_hip_header header = {{0}};
+    struct rudozhev_hip_cpu_descriptor cpu = {0, 0, 0, 0};
+    struct rudozhev_hip_memory_descriptor range = {0, 0, RUDOZHEV_HIP_NO_TYPE, 0};
+    memcpy(page, manual_page, PAGE_BYTES);
+    const uint64_t reply = rudozhev_hip_read(page, PAGE_BYTES, &header);
+    HOLDS(reply == (7 << 16 | 4) && rudozhev_hip_refused(reply) == RUDOZHEV_HIP_ACCEPTED);
+    HOLDS(rudozhev_hip_cpus(reply) == PAGE_CPUS && rudozhev_hip_memories(reply) == PAGE_RANGES);
+    HOLDS(memcmp(&header, &page_header, sizeof header) == 0);
+    for (uint32_t index = 0; index < PAGE_CPUS; index++) {
+        HOLDS(rudozhev_hip_find_cpu(page, PAGE_BYTES, index, &cpu));
+        HOLDS(memcmp(&cpu, page_cpus + index, sizeof cpu) == 0);
+    }
+    for (uint32_t index = 0; index < PAGE_RANGES; index++) {
+        HOLDS(rudozhev_hip_find_memory(page, PAGE_BYTES, index, &range));
+        HOLDS(range.address == page_addresses[index] && range.size == page_sizes[index]);
+        HOLDS((int)range.type == page_types[index] && range.auxiliary == page_auxiliaries[index]);
+    }
+    /* The last CPU and the last range stay where there is no such descriptor. */
+    const uint32_t past[] = {7, 8, UINT32_C(1) << 30, UINT32_MAX};
+    for (size_t index = 0; index < sizeof past / sizeof *past; index++) {
+        HOLDS(!rudozhev_hip_find_cpu(page, PAGE_BYTES, past[index], &cpu) && cpu.package == 2);
+        HOLDS(!rudozhev_hip_find_memory(page, PAGE_BYTES, past[index], &range) && range.address == 4194304);
+    }
+    HOLDS(!rudozhev_hip_find_cpu(page, PAGE_BYTES, PAGE_CPUS, &cpu) && cpu.core == 3);
+    HOLDS(rudozhev_hip_cpu(page, PAGE_BYTES, 3) == (UINT64_C(1) << 32 | 0x02030100));
+}
+
+static void refused_pages(void) {
+    memcpy(page, manual_page, PAGE_BYTES);
+    HOLDS(is_refused(0, RUDOZHEV_HIP_SHORT) && is_refused(55, RUDOZHEV_HIP_SHORT));
+    HOLDS(is_refused(56, RUDOZHEV_HIP_LENGTH) && is_refused(239, RUDOZHEV_HIP_LENGTH));
+    HOLDS(is_refused(241, RUDOZHEV_HIP_LENGTH));
+    page[3]++;
+    HOLDS(is_refused(PAGE_BYTES, RUDOZHEV_HIP_SIGNATURE));
+    memcpy(page, manual_page, PAGE_BYTES);
+    page[6]--;
+    HOLDS(is_refused(239, RUDOZHEV_HIP_LAYOUT));
+    memcpy(page, manual_page, PAGE_BYTES);
+    page[16]++;
+    HOLDS(is_refused(PAGE_BYTES, RUDOZHEV_HIP_CHECKSUM));
+    /* A type of 0, and the checksum for it. */
+    memcpy(page, manual_page, PAGE_BYTES);
+    page[88]--;
+    page[4]++;
+    HOLDS(is_refused(PAGE_BYTES, RUDOZHEV_HIP_TYPE));
+    struct rudozhev_hip_header header;
+    HOLDS(rudozhev_hip_refused(rudozhev_hip_read(NULL, 0, &header)) == RUDOZHEV_HIP_SHORT);
+}
+
+/* The length of a page at the start of longer memory, and of what is none. */
+static void page_lengths(void) {
+    memcpy(page, manual_page, PAGE_BYTES);
+    HOLDS(rudozhev_hip_length(page, sizeof page) == PAGE_BYTES && rudozhev_hip_length(page, PAGE_BYTES) == PAGE_BYTES);
+    HOLDS(rudozhev_hip_length(page, 239) == 239 && is_refused(239, RUDOZHEV_HIP_LENGTH));
+    HOLDS(rudozhev_hip_length(page, 56) == 56 && rudozhev_hip_length(page, 8) == 8);
+    HOLDS(rudozhev_hip_length(page, 7) == 7 && rudozhev_hip_length(NULL, 0) == 0);
+    page[6] = 55;
+    HOLDS(rudozhev_hip_length(page, sizeof page) == 55 && is_refused(55, RUDOZHEV_HIP_SHORT));
+    page[7] = 255;
+    HOLDS(rudozhev_hip_length(page, sizeof page) == 65335 && rudozhev_hip_length(page, 65334) == 65334);
+    page[6] = 255;
+    HOLDS(rudozhev_hip_length(page, sizeof page) == RUDOZHEV_HIP_GREATEST_LENGTH);
+    memset(page, 0, sizeof page);
+    HOLDS(rudozhev_hip_length(page, sizeof page) == 0 && is_refused(0, RUDOZHEV_HIP_SHORT));
+}
+
+/* Whether a write is refused so, and leaves the buffer. */
+static bool write_is_refused(uint64_t reply, enum rudozhev_hip_refusal refusal) {
+    return rudozhev_hip_refused(reply) == refusal && rudozhev_hip_written(reply) == 0 &&
+           memcmp(page, page_before, sizeof page) == 0;
+}
+
+static void write_page(void) {
+    memset(page, 0x5a, sizeof page);
+    memcpy(page_before, page, sizeof page);
+    HOLDS(write_is_refused(written_with(page_types, 239), RUDOZHEV_HIP_ROOM));
+    HOLDS(write_is_refused(written_with(page_types, 0), RUDOZHEV_HIP_ROOM));
+    HOLDS(write_is_refused(written_with(page_types + 1, sizeof page), RUDOZHEV_HIP_TYPE));
+    HOLDS(rudozhev_hip_written(written_with(page_types, PAGE_BYTES)) == PAGE_BYTES);
+    HOLDS(memcmp(page, manual_page, PAGE_BYTES) == 0 && page[PAGE_BYTES] == 0x5a);
+    memset(page, 0x5a, sizeof page);
+    HOLDS(written_with(page_types, sizeof page) == PAGE_BYTES);
+    memcpy(page_before, manual_page, PAGE_BYTES);
+    HOLDS(memcmp(page, page_before, sizeof page) == 0);
+
+    /* Bytes that make no whole CPU, and what lists have beyond the shortest, are not read. */
+    for (size_t shortest = 0; shortest < 4; shortest++) {
+        size_t counts[4] = {PAGE_RANGES + 1, PAGE_RANGES + 1, PAGE_RANGES + 1, PAGE_RANGES + 1};
+        counts[shortest] = PAGE_RANGES;
+        memset(page, 0x5a, sizeof page);
+        HOLDS(rudozhev_hip_write(&page_header, (const uint8_t *)page_cpus, 4 * PAGE_CPUS + shortest, page_addresses,
+                                 counts[0], page_sizes, counts[1], page_types, counts[2], page_auxiliaries, counts[3],
+                                 page, sizeof page) == PAGE_BYTES);
+        HOLDS(memcmp(page, page_before, sizeof page) == 0);
+    }
+}
+
+/* The longest pages, and those that are longer by one descriptor. */
+static void long_pages(void) {
+    struct rudozhev_hip_lists lists = {many_numbers, many_numbers, many_types, many_auxiliaries, MOST_RANGES};
+    struct rudozhev_hip_header header;
+    for (size_t index = 0; index <= MOST_RANGES; index++) {
+        many_types[index] = RUDOZHEV_HIP_RESERVED;
+    }
+    HOLDS(rudozhev_hip_write_page(&page_header, many_cpus, 1, &lists, page, sizeof page) == 65532);
+    HOLDS(rudozhev_hip_read(page, rudozhev_hip_length(page, sizeof page), &header) == (2728 << 16 | 1));
+    memcpy(page_before, page, sizeof page);
+    uint64_t reply = rudozhev_hip_write_page(&page_header, many_cpus, 2, &lists, page, sizeof page);
+    HOLDS(write_is_refused(reply, RUDOZHEV_HIP_LARGE));
+    lists.count = MOST_RANGES + 1;
+    reply = rudozhev_hip_write_page(&page_header, NULL, 0, &lists, page, 0);
+    HOLDS(write_is_refused(reply, RUDOZHEV_HIP_LARGE));
+    many_types[MOST_RANGES] = RUDOZHEV_HIP_NO_TYPE;
+    reply = rudozhev_hip_write_page(&page_header, NULL, 0, &lists, page, 0);
+    HOLDS(write_is_refused(reply, RUDOZHEV_HIP_TYPE));
+
+    const struct rudozhev_hip_lists none = {NULL, NULL, NULL, NULL, 0};
+    reply = rudozhev_hip_write_page(&page_header, many_cpus, MOST_CPUS + 1, &none, page, sizeof page);
+    HOLDS(write_is_refused(reply, RUDOZHEV_HIP_LARGE));
+    HOLDS(rudozhev_hip_write_page(&page_header, many_cpus, MOST_CPUS, &none, page, sizeof page) == 65532);
+    HOLDS(rudozhev_hip_read(page, 65532, &header) == 16369);
+    HOLDS(rudozhev_hip_write_page(&page_header, NULL, 0, &none, page, sizeof page) == RUDOZHEV_HIP_HEADER_BYTES);
+    HOLDS(rudozhev_hip_read(page, RUDOZHEV_HIP_HEADER_BYTES, &header) == 0);
+}
+
 int main(void) {
+    page_numbers();
+    read_page();
+    refused_pages();
+    page_lengths();
+    write_page();
+    long_pages();
     descriptors();
     place_numbers();
     other_words();

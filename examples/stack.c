@@ -1,7 +1,7 @@
 /* Measures the deepest stack that each function of librudozhev.a uses: replays the
- * journals that are its arguments, then walks the longest way to an ancestor, on
- * a painted stack, and looks how far down the paint is gone. The arguments on the
- * caller's side are part of each figure. */
+ * journals that are its arguments, then walks the longest way to an ancestor and writes
+ * and reads information pages, on a painted stack, and looks how far down the paint is
+ * gone. The arguments on the caller's side are part of each figure. */
 #define _GNU_SOURCE
 #include "rudozhev.h"
 
@@ -14,8 +14,9 @@ enum { STACK_WORDS = 1 << 15, ARGUMENTS = 6 };
 
 #define PAINT UINT64_C(0xa5a5a5a5a5a5a5a5)
 
-enum function { BOOT, HYPERCALL, CENSUS, DAMAGE, SOUND, UNTYPED, FUNCTIONS };
-static const char *const names[FUNCTIONS] = {"boot", "hypercall", "census", "damage", "sound", "untyped"};
+enum function { BOOT, HYPERCALL, CENSUS, DAMAGE, SOUND, UNTYPED, HIP_READ, HIP_CPU, HIP_MEMORY, HIP_WRITE, FUNCTIONS };
+static const char *const names[FUNCTIONS] = {"boot",    "hypercall", "census",  "damage",     "sound",
+                                             "untyped", "hip_read",  "hip_cpu", "hip_memory", "hip_write"};
 
 static uint32_t places[RUDOZHEV_PLACE_WORDS];
 static uint32_t objects[RUDOZHEV_OBJECT_WORDS];
@@ -25,6 +26,20 @@ static uint32_t list[RUDOZHEV_PLACES];
 static struct {
     uint32_t number, caller, arguments[ARGUMENTS], source[RUDOZHEV_BLOCK_WORDS], target[RUDOZHEV_BLOCK_WORDS];
 } record;
+
+/* An information page, and what it is written from. */
+enum { MOST_CPUS = 16369, MOST_RANGES = 2728 };
+static struct {
+    uint8_t bytes[RUDOZHEV_HIP_GREATEST_LENGTH];
+    size_t length, cpu_count, range_count;
+    uint32_t index;
+    struct rudozhev_hip_header header;
+    struct rudozhev_hip_cpu_descriptor cpus[MOST_CPUS + 1];
+    struct rudozhev_hip_numbers numbers;
+    uint64_t addresses[MOST_RANGES + 1], sizes[MOST_RANGES + 1];
+    int32_t types[MOST_RANGES + 1];
+    uint32_t auxiliaries[MOST_RANGES + 1];
+} page;
 
 static uint64_t stack[STACK_WORDS] __attribute__((aligned(16)));
 static size_t deepest[FUNCTIONS];
@@ -59,6 +74,20 @@ static void run(void) {
         break;
     case UNTYPED:
         reply = rudozhev_untyped(record.target, RUDOZHEV_BLOCK_WORDS);
+        break;
+    case HIP_READ:
+        reply = rudozhev_hip_read(page.bytes, page.length, &page.header);
+        break;
+    case HIP_CPU:
+        reply = rudozhev_hip_cpu(page.bytes, page.length, page.index);
+        break;
+    case HIP_MEMORY:
+        reply = (uint64_t)rudozhev_hip_memory(page.bytes, page.length, page.index, &page.numbers);
+        break;
+    case HIP_WRITE:
+        reply = rudozhev_hip_write(&page.header, (const uint8_t *)page.cpus, 4 * page.cpu_count, page.addresses,
+                                   page.range_count, page.sizes, page.range_count, page.types, page.range_count,
+                                   page.auxiliaries, page.range_count, page.bytes, sizeof page.bytes);
         break;
     case FUNCTIONS:
         break;
@@ -176,6 +205,54 @@ static void walk_the_longest_way(void) {
     measure(CENSUS);
 }
 
+/* Reads the page and descriptors of it, one that is there and one that is not. */
+static void read_page(void) {
+    measure(HIP_READ);
+    for (int past = 0; past < 2; past++) {
+        page.index = past == 0 ? 0 : UINT32_MAX;
+        measure(HIP_CPU);
+        measure(HIP_MEMORY);
+    }
+}
+
+/* Writes a page and reads it, whole and with each byte of its header changed, where it is written. */
+static void measure_page(size_t cpu_count, size_t range_count, enum rudozhev_hip_type type,
+                         enum rudozhev_hip_refusal refusal) {
+    page.cpu_count = cpu_count;
+    page.range_count = range_count;
+    for (size_t range = 0; range < range_count; range++) {
+        page.types[range] = type;
+    }
+    measure(HIP_WRITE);
+    if (rudozhev_hip_refused(reply) != refusal) {
+        fprintf(stderr, "a page of %zu CPUs and %zu ranges is not as expected\n", cpu_count, range_count);
+        exit(EXIT_FAILURE);
+    }
+    page.length = rudozhev_hip_written(reply);
+    read_page();
+    for (size_t byte = 0; byte < RUDOZHEV_HIP_HEADER_BYTES && byte < page.length; byte++) {
+        page.bytes[byte] ^= 1;
+        read_page();
+        page.bytes[byte] ^= 1;
+    }
+    if (page.length > RUDOZHEV_HIP_HEADER_BYTES) {
+        page.length--;
+        read_page();
+    }
+}
+
+/* The shortest page, a usual one and the longest, then pages that are not written. */
+static void measure_pages(void) {
+    const enum rudozhev_hip_type type = RUDOZHEV_HIP_MICROHYPERVISOR;
+    measure_page(0, 0, type, RUDOZHEV_HIP_ACCEPTED);
+    measure_page(4, 20, type, RUDOZHEV_HIP_ACCEPTED);
+    measure_page(1, MOST_RANGES, type, RUDOZHEV_HIP_ACCEPTED);
+    measure_page(MOST_CPUS, 0, type, RUDOZHEV_HIP_ACCEPTED);
+    measure_page(0, MOST_RANGES + 1, type, RUDOZHEV_HIP_LARGE);
+    measure_page(MOST_CPUS + 1, 0, type, RUDOZHEV_HIP_LARGE);
+    measure_page(4, 20, RUDOZHEV_HIP_NO_TYPE, RUDOZHEV_HIP_TYPE);
+}
+
 int main(int count, char **files) {
     unsigned long records = 0;
     for (int file = 1; file < count; file++) {
@@ -197,9 +274,10 @@ int main(int count, char **files) {
         fclose(journal);
     }
     walk_the_longest_way();
-    printf("deepest stack over %lu records and the longest way, in bytes\n", records);
+    measure_pages();
+    printf("deepest stack over %lu records, the longest way and information pages, in bytes\n", records);
     for (int function = 0; function < FUNCTIONS; function++) {
-        printf("%-9s %zu\n", names[function], deepest[function]);
+        printf("%-10s %zu\n", names[function], deepest[function]);
     }
     return EXIT_SUCCESS;
 }

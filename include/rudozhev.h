@@ -1,11 +1,12 @@
 /* The capability side of a small hypervisor: the functions of librudozhev.a.
  *
  * Tables, blocks and lists are the caller's: each is lent for one call as a
- * pointer to 32-bit words and their number. A pointer may be null where the
- * number is 0. Any words in slices of any length are accepted; slices that a
- * call may write must not overlap the others, and nobody else may write any of
- * them while it runs: a block that a guest can write is copied first. The
- * functions keep no pointer and have no state.
+ * pointer to 32-bit words and their number, and what belongs to an information
+ * page as one to bytes or numbers. A pointer may be null where the number is 0.
+ * Any words and bytes in slices of any length are accepted; slices that a call
+ * may write must not overlap the others, and nobody else may write any of them
+ * while it runs: a block that a guest can write is copied first. The functions
+ * keep no pointer and have no state.
  *
  * The functions below that put a word together make one that the calls refuse
  * where a part does not fit; each says which.
@@ -402,6 +403,188 @@ RUDOZHEV_ANSWERS static inline uint64_t rudozhev_lookup(struct rudozhev_tables *
 RUDOZHEV_ANSWERS static inline uint64_t rudozhev_sm_ctrl(struct rudozhev_tables *tables, uint32_t caller,
                                                          uint32_t semaphore, enum rudozhev_operation operation) {
     return rudozhev_without_blocks(RUDOZHEV_SM_CTRL, tables, caller, semaphore, (uint32_t)operation, 0, 0, 0, 0);
+}
+
+/* The information page, which tells the root about the machine. A page is bytes: a
+ * header, a descriptor for each CPU and one for each range of memory. What the functions
+ * answer follows from the bytes alone; they know nothing of the tables. */
+
+/* Sizes of the information page, in bytes but for the number of fields. */
+enum {
+    RUDOZHEV_HIP_HEADER_BYTES = 56,       /* of the header, after which the CPU descriptors begin */
+    RUDOZHEV_HIP_CPU_BYTES = 4,           /* of a CPU descriptor */
+    RUDOZHEV_HIP_MEMORY_BYTES = 24,       /* of a memory descriptor */
+    RUDOZHEV_HIP_GREATEST_LENGTH = 65535, /* of a page */
+    RUDOZHEV_HIP_FIELDS = 10              /* fields of a header that may have any value */
+};
+
+/* The fields of a header, in its order. */
+enum rudozhev_hip_field {
+    RUDOZHEV_HIP_FEATURES = 0,      /* a bit for each feature that the hypervisor supports */
+    RUDOZHEV_HIP_API_VERSION = 1,   /* of the interface */
+    RUDOZHEV_HIP_SEL = 2,           /* selectors of an object space */
+    RUDOZHEV_HIP_EXC = 3,           /* selectors for exception handling */
+    RUDOZHEV_HIP_VMI = 4,           /* selectors for virtual-machine intercepts */
+    RUDOZHEV_HIP_GSI = 5,           /* global system interrupts */
+    RUDOZHEV_HIP_PAGE_SIZES = 6,    /* bit n: pages of 2^n bytes are supported */
+    RUDOZHEV_HIP_UTCB_SIZES = 7,    /* bit n: UTCBs of 2^n bytes are supported */
+    RUDOZHEV_HIP_TSC_FREQUENCY = 8, /* of the time stamp counter, in kHz */
+    RUDOZHEV_HIP_BUS_FREQUENCY = 9  /* of the interconnect, in kHz */
+};
+
+/* Why a page is refused, by the reader up to TYPE and by the writer from there on. It is the
+ * first test that fails. */
+enum rudozhev_hip_refusal {
+    RUDOZHEV_HIP_ACCEPTED = 0,  /* it is not refused */
+    RUDOZHEV_HIP_SHORT = 1,     /* there are fewer bytes than a header has */
+    RUDOZHEV_HIP_SIGNATURE = 2, /* the first four bytes are others */
+    RUDOZHEV_HIP_LENGTH = 3,    /* the length field is not the number of bytes */
+    RUDOZHEV_HIP_LAYOUT = 4,    /* offsets and sizes do not divide the bytes into whole descriptors */
+    RUDOZHEV_HIP_CHECKSUM = 5,  /* the sum of the 16-bit words is not 0 */
+    RUDOZHEV_HIP_TYPE = 6,      /* a memory descriptor has a type that is not allowed */
+    RUDOZHEV_HIP_LARGE = 7,     /* the page would be longer than the greatest length */
+    RUDOZHEV_HIP_ROOM = 8       /* the buffer is shorter than the page */
+};
+
+/* The types of memory that are allowed. */
+enum rudozhev_hip_type {
+    RUDOZHEV_HIP_MULTIBOOT_MODULE = -2,
+    RUDOZHEV_HIP_MICROHYPERVISOR = -1,
+    RUDOZHEV_HIP_NO_TYPE = 0, /* what no memory has: there is no such descriptor */
+    RUDOZHEV_HIP_AVAILABLE = 1,
+    RUDOZHEV_HIP_RESERVED = 2,
+    RUDOZHEV_HIP_ACPI_RECLAIM = 3,
+    RUDOZHEV_HIP_ACPI_NVS = 4
+};
+
+/* The fields of a header, each at its index of rudozhev_hip_field. */
+struct rudozhev_hip_header {
+    uint32_t fields[RUDOZHEV_HIP_FIELDS];
+};
+
+/* A CPU descriptor, byte for byte; which CPU it is of follows from its position. */
+struct rudozhev_hip_cpu_descriptor {
+    uint8_t flags, thread, core, package;
+};
+
+/* The numbers of a memory descriptor, beside its type. */
+struct rudozhev_hip_numbers {
+    uint64_t address, size, auxiliary;
+};
+
+/* A memory descriptor. */
+struct rudozhev_hip_memory_descriptor {
+    uint64_t address;            /* of the first byte */
+    uint64_t size;               /* in bytes */
+    enum rudozhev_hip_type type; /* never RUDOZHEV_HIP_NO_TYPE in one that was found */
+    uint32_t auxiliary;          /* address of a multiboot module's command line */
+};
+
+/* Reads a page and writes its header, which stays where the page is refused. The reply has the
+ * refusal in its high half and both counts in its low half: see the next three functions. */
+RUDOZHEV_ANSWERS uint64_t rudozhev_hip_read(const uint8_t *page, size_t page_bytes,
+                                            struct rudozhev_hip_header *RUDOZHEV_APART header);
+
+/* Why rudozhev_hip_read refused a page, or rudozhev_hip_write; RUDOZHEV_HIP_ACCEPTED where they did not. */
+RUDOZHEV_ANSWERS static inline enum rudozhev_hip_refusal rudozhev_hip_refused(uint64_t reply) {
+    return (enum rudozhev_hip_refusal)(reply >> 32);
+}
+
+/* How many CPU descriptors, and memory descriptors, the page of a reply of rudozhev_hip_read
+ * has; none where it is refused. */
+RUDOZHEV_ANSWERS static inline uint32_t rudozhev_hip_cpus(uint64_t reply) {
+    return (uint32_t)reply & 0xffff;
+}
+RUDOZHEV_ANSWERS static inline uint32_t rudozhev_hip_memories(uint64_t reply) {
+    return (uint32_t)reply >> 16;
+}
+
+/* How many bytes are the page that some memory begins with: as many as its bytes 6 and 7 say,
+ * or all there are if those are fewer. */
+RUDOZHEV_ANSWERS static inline size_t rudozhev_hip_length(const uint8_t *memory, size_t memory_bytes) {
+    if (memory_bytes < 8) {
+        return memory_bytes;
+    }
+    const size_t length = (size_t)memory[7] << 8 | memory[6];
+    return length < memory_bytes ? length : memory_bytes;
+}
+
+/* The descriptor of a CPU in the low half, flags lowest, and 1 in the high half; 0 where the
+ * page is refused or has no such CPU. rudozhev_hip_find_cpu takes the answer apart. */
+RUDOZHEV_ANSWERS uint64_t rudozhev_hip_cpu(const uint8_t *page, size_t page_bytes, uint32_t index);
+
+/* Finds the descriptor of a CPU; the first is CPU 0. False where the page is refused or
+ * has no such CPU, and the descriptor stays. */
+RUDOZHEV_ANSWERS static inline bool rudozhev_hip_find_cpu(const uint8_t *page, size_t page_bytes, uint32_t index,
+                                                          struct rudozhev_hip_cpu_descriptor *RUDOZHEV_APART found) {
+    const uint64_t answer = rudozhev_hip_cpu(page, page_bytes, index);
+    if (answer == 0) {
+        return false;
+    }
+    found->flags = (uint8_t)answer;
+    found->thread = (uint8_t)(answer >> 8);
+    found->core = (uint8_t)(answer >> 16);
+    found->package = (uint8_t)(answer >> 24);
+    return true;
+}
+
+/* The type of a memory descriptor, with its numbers; RUDOZHEV_HIP_NO_TYPE where the page is
+ * refused or has no such descriptor, and the numbers stay. */
+RUDOZHEV_ANSWERS int32_t rudozhev_hip_memory(const uint8_t *page, size_t page_bytes, uint32_t index,
+                                             struct rudozhev_hip_numbers *RUDOZHEV_APART numbers);
+
+/* Finds a memory descriptor; the first has index 0. False where the page is refused or has
+ * no such descriptor, and the descriptor stays. */
+RUDOZHEV_ANSWERS static inline bool
+rudozhev_hip_find_memory(const uint8_t *page, size_t page_bytes, uint32_t index,
+                         struct rudozhev_hip_memory_descriptor *RUDOZHEV_APART found) {
+    struct rudozhev_hip_numbers numbers = {0, 0, 0};
+    const int32_t type = rudozhev_hip_memory(page, page_bytes, index, &numbers);
+    if (type == RUDOZHEV_HIP_NO_TYPE) {
+        return false;
+    }
+    found->address = numbers.address;
+    found->size = numbers.size;
+    found->type = (enum rudozhev_hip_type)type;
+    found->auxiliary = (uint32_t)numbers.auxiliary;
+    return true;
+}
+
+/* Writes a page at the start of a buffer. A CPU descriptor has four bytes; bytes at the end that
+ * make no whole one are not read. The shortest of the four lists says how many memory
+ * descriptors there are. The reply has the refusal in its high half, and then the buffer stays;
+ * else the length of the page in its low half, and the bytes after it stay. */
+RUDOZHEV_ANSWERS uint64_t rudozhev_hip_write(const struct rudozhev_hip_header *header, const uint8_t *cpus,
+                                             size_t cpu_bytes, const uint64_t *addresses, size_t address_count,
+                                             const uint64_t *sizes, size_t size_count, const int32_t *types,
+                                             size_t type_count, const uint32_t *auxiliaries, size_t auxiliary_count,
+                                             uint8_t *RUDOZHEV_APART buffer, size_t buffer_bytes);
+
+/* The length of the page of a reply of rudozhev_hip_write; 0 where it is refused. */
+RUDOZHEV_ANSWERS static inline size_t rudozhev_hip_written(uint64_t reply) {
+    return (uint32_t)reply;
+}
+
+/* Memory descriptors as four lists that all have `count` numbers: descriptor i has the i-th
+ * of each. */
+struct rudozhev_hip_lists {
+    const uint64_t *addresses;
+    const uint64_t *sizes;
+    const int32_t *types; /* of rudozhev_hip_type */
+    const uint32_t *auxiliaries;
+    size_t count;
+};
+
+/* Writes a page of so many whole CPU descriptors and of lists of one length, as
+ * rudozhev_hip_write does, and answers its reply. */
+RUDOZHEV_ANSWERS static inline uint64_t rudozhev_hip_write_page(const struct rudozhev_hip_header *header,
+                                                                const struct rudozhev_hip_cpu_descriptor *cpus,
+                                                                size_t cpu_count,
+                                                                const struct rudozhev_hip_lists *memory,
+                                                                uint8_t *RUDOZHEV_APART buffer, size_t buffer_bytes) {
+    return rudozhev_hip_write(header, (const uint8_t *)cpus, cpu_count * sizeof *cpus, memory->addresses, memory->count,
+                              memory->sizes, memory->count, memory->types, memory->count, memory->auxiliaries,
+                              memory->count, buffer, buffer_bytes);
 }
 
 #ifdef __cplusplus

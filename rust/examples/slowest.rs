@@ -1,11 +1,12 @@
-//! Times the slowest calls that are known of each function, on tables made for
-//! it, and prints a line for each: the least of many runs, with the tables in the
-//! caches and with them flushed from there before each run.
+//! Times the slowest calls that are known of each function, on tables or a page
+//! made for it, and prints a line for each: the least of many runs, with what it is
+//! lent in the caches and flushed from there before each run.
 
 use std::arch::x86_64::{_mm_clflush, _mm_mfence};
 use std::hint::black_box;
 use std::time::{Duration, Instant};
 
+use rudozhev::hip::{MemoryType, CPU_BYTES, FIELDS, GREATEST_LENGTH};
 use rudozhev::words::{
     self, BLOCK_WORDS, OBJECT_WORDS, PLACES, PLACE_WIDTH, PLACE_WORDS, RECORD_WIDTH,
 };
@@ -24,7 +25,7 @@ const fn ec_of(domain: u32) -> u32 {
 /// The root's selector of the portal to domain 2.
 const PORTAL: u32 = 62;
 
-/// What a call may read and write.
+/// What a call on tables may read and write.
 #[derive(Clone)]
 struct Lent {
     places: [u32; PLACE_WORDS],
@@ -34,11 +35,28 @@ struct Lent {
     list: [u32; PLACES as usize],
 }
 
-/// A call to time: its name, the words that it begins with, and what it answers.
-struct Case<'a> {
+/// Memory descriptors of the longest page that has a CPU.
+const RANGES: usize = 2_728;
+
+/// What a call on an information page may read and write.
+#[derive(Clone)]
+struct LentPage {
+    bytes: [u8; GREATEST_LENGTH],
+    length: usize,
+    fields: [u32; FIELDS],
+    cpu: [u8; CPU_BYTES],
+    addresses: [u64; RANGES],
+    sizes: [u64; RANGES],
+    types: [i32; RANGES],
+    auxiliaries: [u32; RANGES],
+    numbers: [u64; 3],
+}
+
+/// A call to time: its name, what it is lent at its beginning, and what it answers.
+struct Case<'a, T> {
     name: &'a str,
-    lent: &'a Lent,
-    call: fn(&mut Lent) -> Result<u32, Refusal>,
+    lent: &'a T,
+    call: fn(&mut T) -> Option<u32>,
     answer: u32,
 }
 
@@ -166,20 +184,44 @@ fn delegated() -> Result<Lent, Refusal> {
     Ok(lent)
 }
 
-fn hypercall(lent: &mut Lent, number: u32, caller: u32, a: u32, b: u32) -> Result<u32, Refusal> {
+fn hypercall(lent: &mut Lent, number: u32, caller: u32, a: u32, b: u32) -> Option<u32> {
     let arguments = [a, b, 0, 0, 0, 0];
     let Lent { places, objects, source, target, .. } = lent;
-    words::hypercall(number, caller, arguments, places, objects, source, target)
+    words::hypercall(number, caller, arguments, places, objects, source, target).ok()
 }
 
-fn message(lent: &mut Lent) -> Result<u32, Refusal> {
+fn message(lent: &mut Lent) -> Option<u32> {
     hypercall(lent, words::CALL, ec_of(SENDER), 0, 0)
 }
 
+/// Writes the page at the start of its bytes.
+fn write_page(lent: &mut LentPage) -> Option<u32> {
+    let LentPage { bytes, fields, cpu, addresses, sizes, types, auxiliaries, .. } = lent;
+    let length = words::hip_write(fields, cpu, addresses, sizes, types, auxiliaries, bytes).ok()?;
+    length.try_into().ok()
+}
+
+/// The longest page that has a CPU and as many memory descriptors as it can have.
+fn longest_page() -> LentPage {
+    let mut lent = LentPage {
+        bytes: [0; GREATEST_LENGTH],
+        length: 0,
+        fields: [u32::MAX; FIELDS],
+        cpu: [1, 0, 0, 0],
+        addresses: [u64::MAX; RANGES],
+        sizes: [u64::MAX; RANGES],
+        types: [MemoryType::MultibootModule.number(); RANGES],
+        auxiliaries: [u32::MAX; RANGES],
+        numbers: [0; 3],
+    };
+    lent.length = write_page(&mut lent).expect("a page that is not too long") as usize;
+    lent
+}
+
 /// Drops what a call may read from the caches.
-fn flush(lent: &Lent) {
-    let start = (lent as *const Lent).cast::<u8>();
-    for line in (0..size_of::<Lent>()).step_by(64) {
+fn flush<T>(lent: &T) {
+    let start = (lent as *const T).cast::<u8>();
+    for line in (0..size_of::<T>()).step_by(64) {
         // SAFETY: the offset is inside `lent`, and flushing a line changes no byte.
         unsafe { _mm_clflush(start.add(line)) };
     }
@@ -188,7 +230,7 @@ fn flush(lent: &Lent) {
 }
 
 /// The least time of a call over many runs, each on the same words.
-fn least(case: &Case, flushed: bool) -> Duration {
+fn least<T: Clone>(case: &Case<T>, flushed: bool) -> Duration {
     let mut lent = case.lent.clone();
     let run = |_| {
         lent.clone_from(case.lent);
@@ -198,17 +240,25 @@ fn least(case: &Case, flushed: bool) -> Duration {
         let begin = Instant::now();
         let reply = (case.call)(black_box(&mut lent));
         let time = begin.elapsed();
-        assert_eq!(reply, Ok(case.answer), "{}", case.name);
+        assert_eq!(reply, Some(case.answer), "{}", case.name);
         time
     };
     (0..RUNS).map(run).min().expect("some runs")
+}
+
+/// Times calls and prints a line for each.
+fn print<T: Clone>(cases: &[Case<T>]) {
+    for case in cases {
+        let [cached, flushed] = [false, true].map(|flushed| least(case, flushed).as_nanos());
+        println!("{:45} {cached:12} {flushed:12}", case.name);
+    }
 }
 
 /// Whether the callee is shown all object selectors 30 times.
 fn shows_all(mut lent: Lent) -> bool {
     let all =
         Descriptor::new(Space::Object, 0, Space::Object.greatest_order(), 3).map(Descriptor::word);
-    message(&mut lent) == Ok(0) && lent.target[4..].chunks(2).all(|item| Some(item[1]) == all)
+    message(&mut lent) == Some(0) && lent.target[4..].chunks(2).all(|item| Some(item[1]) == all)
 }
 
 fn main() -> Result<(), Refusal> {
@@ -223,7 +273,7 @@ fn main() -> Result<(), Refusal> {
             lent: &deepest,
             call: |lent| {
                 let Lent { places, objects, list, .. } = lent;
-                words::census(place(0, Space::Object, 4), places, objects, list)
+                words::census(place(0, Space::Object, 4), places, objects, list).ok()
             },
             answer: 1_776,
         },
@@ -257,27 +307,59 @@ fn main() -> Result<(), Refusal> {
             name: "damage, of sound tables",
             lent: &deepest,
             call: |lent| {
-                Ok(words::damage(&lent.places, &lent.objects).map_or(0, |found| found.rule))
+                Some(words::damage(&lent.places, &lent.objects).map_or(0, |found| found.rule))
             },
             answer: 0,
         },
         Case {
             name: "sound",
             lent: &deepest,
-            call: |lent| Ok(words::is_sound(&lent.places, &lent.objects).into()),
+            call: |lent| Some(words::is_sound(&lent.places, &lent.objects).into()),
             answer: 1,
         },
         Case {
             name: "boot",
             lent: &deepest,
-            call: |lent| words::boot(&mut lent.places, &mut lent.objects),
+            call: |lent| words::boot(&mut lent.places, &mut lent.objects).ok(),
             answer: 0,
         },
     ];
+    let page = longest_page();
+    let page_cases = [
+        Case {
+            name: "hip_write of a page of 65,532 bytes",
+            lent: &page,
+            call: write_page,
+            answer: 65_532,
+        },
+        Case {
+            name: "hip_read of a page of 65,532 bytes",
+            lent: &page,
+            call: |lent| {
+                let LentPage { bytes, length, fields, .. } = lent;
+                words::hip_read(&bytes[..*length], fields).ok().map(|counts| counts.memories)
+            },
+            answer: 2_728,
+        },
+        Case {
+            name: "hip_cpu of a page of 65,532 bytes",
+            lent: &page,
+            call: |lent| words::hip_cpu(&lent.bytes[..lent.length], 0).map(u32::from_le_bytes),
+            answer: 1,
+        },
+        Case {
+            name: "hip_memory of a page of 65,532 bytes",
+            lent: &page,
+            call: |lent| {
+                let LentPage { bytes, length, numbers, .. } = lent;
+                let found = words::hip_memory(&bytes[..*length], 2_727, numbers);
+                found.map(i32::unsigned_abs)
+            },
+            answer: 2,
+        },
+    ];
     println!("{:45} {:>12} {:>12}", "", "cached, ns", "flushed, ns");
-    for case in &cases {
-        let [cached, flushed] = [false, true].map(|flushed| least(case, flushed).as_nanos());
-        println!("{:45} {cached:12} {flushed:12}", case.name);
-    }
+    print(&cases);
+    print(&page_cases);
     Ok(())
 }

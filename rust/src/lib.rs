@@ -4,8 +4,9 @@
 //!
 //! The proved functions lie in a static library, which the build script finds.
 //! [`words`] has them over lent slices of any length and content. [`Tables`]
-//! owns the words of both tables and takes typed calls. Neither allocates, and
-//! a refused call is a value, [`Refusal`], that has changed no word.
+//! owns the words of both tables and takes typed calls. [`hip`] reads and writes
+//! the information page. None allocates, and a refused call is a value, such as
+//! [`Refusal`], that has changed nothing.
 //!
 //! ```
 //! use rudozhev::{
@@ -43,6 +44,7 @@
 #![deny(missing_docs)]
 
 mod descriptor;
+pub mod hip;
 mod hypercall;
 mod message;
 mod numbers;

@@ -3,6 +3,7 @@
 //! What the functions ask of their caller, that nobody else writes the slices
 //! during a call and that they do not overlap, follows from Rust's references.
 
+use crate::hip::{Counts, PageRefusal, WriteRefusal, CPU_BYTES, FIELDS};
 use crate::numbers::{ObjectNumber, Place};
 use crate::refusal::Refusal;
 
@@ -62,9 +63,10 @@ pub const LOOKUP: u32 = 8;
 /// The number of SM_CTRL: selector, operation.
 pub const SM_CTRL: u32 = 11;
 
-// The functions of the archive, which takes each slice as a pointer and a length.
-// They are proved for slices of any length and content: they read and write no
-// word outside the slices that they are lent, and they keep nothing.
+// The functions of the archive, which takes each slice as a pointer and a length, and
+// each array as a pointer. They are proved for slices of any length and content: they
+// read and write nothing outside the slices and arrays that they are lent, and they keep
+// nothing.
 extern "C" {
     fn rudozhev_boot(
         places: *mut u32,
@@ -112,6 +114,29 @@ extern "C" {
         object_words: usize,
     ) -> u32;
     fn rudozhev_untyped(block: *const u32, block_words: usize) -> u64;
+    fn rudozhev_hip_read(page: *const u8, page_bytes: usize, fields: *mut [u32; FIELDS]) -> u64;
+    fn rudozhev_hip_cpu(page: *const u8, page_bytes: usize, index: u32) -> u64;
+    fn rudozhev_hip_memory(
+        page: *const u8,
+        page_bytes: usize,
+        index: u32,
+        numbers: *mut [u64; 3],
+    ) -> i32;
+    fn rudozhev_hip_write(
+        fields: *const [u32; FIELDS],
+        cpus: *const u8,
+        cpu_bytes: usize,
+        addresses: *const u64,
+        address_count: usize,
+        sizes: *const u64,
+        size_count: usize,
+        types: *const i32,
+        type_count: usize,
+        auxiliaries: *const u32,
+        auxiliary_count: usize,
+        buffer: *mut u8,
+        buffer_bytes: usize,
+    ) -> u64;
 }
 
 /// Where a rule of soundness is broken.
@@ -250,6 +275,69 @@ pub fn untyped(block: &[u32]) -> &[u32] {
     // reads, and the pointer is aligned and good for its length.
     let count = unsafe { rudozhev_untyped(block.as_ptr(), block.len()) } as usize;
     block.get(HEADER_WORDS..HEADER_WORDS + count).unwrap_or_default()
+}
+
+/// Reads an information page: answers how many descriptors it has, and writes the fields of
+/// its header. Those stay where the page is refused.
+pub fn hip_read(page: &[u8], fields: &mut [u32; FIELDS]) -> Result<Counts, PageRefusal> {
+    // SAFETY: the page is a shared slice, which nobody writes and the function only reads,
+    // and the pointer is good for its length. The fields are a mutable reference, so that
+    // they do not overlap it.
+    PageRefusal::read(unsafe { rudozhev_hip_read(page.as_ptr(), page.len(), fields) })
+}
+
+/// The bytes of the CPU descriptor of an index: flags, thread, core and package. None where
+/// the page is refused or has not so many.
+pub fn hip_cpu(page: &[u8], index: u32) -> Option<[u8; CPU_BYTES]> {
+    // SAFETY: the page is a shared slice, which nobody writes and the function only reads,
+    // and the pointer is good for its length.
+    let answer = unsafe { rudozhev_hip_cpu(page.as_ptr(), page.len(), index) };
+    (answer >> 32 != 0).then_some((answer as u32).to_le_bytes())
+}
+
+/// The type of the memory descriptor of an index; its address, size and auxiliary number are
+/// written. None where the page is refused or has not so many, and the numbers stay.
+pub fn hip_memory(page: &[u8], index: u32, numbers: &mut [u64; 3]) -> Option<i32> {
+    // SAFETY: the page is a shared slice, which nobody writes and the function only reads,
+    // and the pointer is good for its length. The numbers are a mutable reference, so that
+    // they do not overlap it.
+    let number = unsafe { rudozhev_hip_memory(page.as_ptr(), page.len(), index, numbers) };
+    (number != 0).then_some(number)
+}
+
+/// Writes an information page at the start of a buffer and answers its length. The CPU
+/// descriptors have four bytes each; bytes at the end that make no whole one are not read.
+/// The shortest of the four lists says how many memory descriptors there are. The bytes after
+/// the page stay, and all bytes where it is refused.
+pub fn hip_write(
+    fields: &[u32; FIELDS],
+    cpus: &[u8],
+    addresses: &[u64],
+    sizes: &[u64],
+    types: &[i32],
+    auxiliaries: &[u32],
+    buffer: &mut [u8],
+) -> Result<usize, WriteRefusal> {
+    // SAFETY: the fields and the lists are shared, so that nobody writes them, and the
+    // function only reads them. The buffer is a mutable slice, so that it overlaps none of
+    // them. Each pointer is aligned and good for the length of its slice.
+    WriteRefusal::read(unsafe {
+        rudozhev_hip_write(
+            fields,
+            cpus.as_ptr(),
+            cpus.len(),
+            addresses.as_ptr(),
+            addresses.len(),
+            sizes.as_ptr(),
+            sizes.len(),
+            types.as_ptr(),
+            types.len(),
+            auxiliaries.as_ptr(),
+            auxiliaries.len(),
+            buffer.as_mut_ptr(),
+            buffer.len(),
+        )
+    })
 }
 
 #[cfg(test)]

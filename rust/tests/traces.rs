@@ -44,7 +44,8 @@ fn every_trace_is_met() {
     let root = Path::new(env!("CARGO_MANIFEST_DIR")).join("..");
     let traces = fs::read_dir(root.join("model/tests/vectors")).expect("the stored traces");
     let mut count = 0;
-    for path in traces.map(|entry| entry.expect("a readable directory").path()) {
+    let paths = traces.map(|entry| entry.expect("a readable directory").path());
+    for path in paths.filter(|path| path.extension().is_some_and(|ending| ending == "trace")) {
         let name = path.file_stem().expect("a name");
         let journal = root.join("crates/replay/data").join(name).with_extension("journal");
         let bytes = fs::read(journal).expect("a readable journal");

@@ -1,10 +1,9 @@
 // The information page: its sizes, what it holds, why a page is refused, which types are allowed, and the sum of its words.
-ghost use Prim.Native.Nat.{_*_, _≤_};
+ghost use Prim.Native.Nat.{_%_};
 ghost use mathlib.Core.Path.{_≡_};
-ghost use lib.ListN.{length};
 ghost use mir.Syntax.{w32};
 ghost use mir.Val.{toZ};
-ghost use Rattle.hip_format.specs.Format.{typeAllowed, wordSum, greatestLength};
+ghost use Rattle.hip_format.specs.Format.{typeAllowed, wordSum};
 ghost use Rattle.hip_format.specs.Reader.{refusalNumber};
 ghost use Rattle.hip_format.specs.Writer.{writtenNumber};
 
@@ -133,15 +132,14 @@ pub fn is_allowed(bits: u32) -> bool
     ((0 < bits) & (bits <= 4)) | (4294967294 <= bits)
 }
 
-// The sum of the words of 16 bits in a page.
-pub fn word_sum(bytes: &[u8]) -> u32
-    requires { ⌜ length (now bytes) ≤ greatestLength ⌝ }
-    ensures { λ r. ⌜ r ≡ wordSum (now (bytes .entry)) ⌝ }
+// The sum of the words of 16 bits in some bytes, modulo 65,536.
+pub fn word_sum(bytes: &[u8]) -> u16
+    ensures { λ r. ⌜ r ≡ wordSum (now (bytes .entry)) % 65536 ⌝ }
 {
-    let mut sum: u32 = 0;
+    let mut sum: u16 = 0;
     let mut at: usize = 0;
     while at + 1 < bytes.len() {
-        sum += endian::get16(bytes, at) as u32;
+        sum = ((sum as u32 + endian::get16(bytes, at) as u32) % 65536) as u16;
         at += 2;
     }
     sum

@@ -92,8 +92,8 @@ module _ (bytes : List ℕ) where
         answers-layout f =
             rw (le-leb 56 (length bytes) long, sym signed ∙ not-false is-signed t2, eq-eqb (lengthField bytes) (length bytes) (sym measured ∙ t3), sym laid-out ∙ not-true is-laid-out f)
 
-        module _ (t4 : not is-laid-out ≡ false) (sum : ℕ) (summed : sum ≡ wordSum bytes) where
-          pub answers-checksum : (sum % 65536 ≡ 0 → ⊥) → Refused Checksum ≡ reading (judged bytes)
+        module _ (t4 : not is-laid-out ≡ false) (sum : ℕ) (summed : sum ≡ wordSum bytes % 65536) where
+          pub answers-checksum : (sum ≡ 0 → ⊥) → Refused Checksum ≡ reading (judged bytes)
           unfolding judged
           answers-checksum f =
               rw (
@@ -101,10 +101,10 @@ module _ (bytes : List ℕ) where
                 sym signed ∙ not-false is-signed t2,
                 eq-eqb (lengthField bytes) (length bytes) (sym measured ∙ t3),
                 sym laid-out ∙ not-false is-laid-out t4,
-                ne-eqb (wordSum bytes % 65536) 0 (λ (e : wordSum bytes % 65536 ≡ 0). f (ap (λ (n : ℕ). n % 65536) summed ∙ e)),
+                ne-eqb (wordSum bytes % 65536) 0 (λ (e : wordSum bytes % 65536 ≡ 0). f (summed ∙ e)),
               )
 
-          module _ (t5 : sum % 65536 ≡ 0) (start : ℕ) (begins : start ≡ memoryOffset bytes) (are-allowed : Bool)
+          module _ (t5 : sum ≡ 0) (start : ℕ) (begins : start ≡ memoryOffset bytes) (are-allowed : Bool)
               (allowed : are-allowed ≡ typesAllowed (spaced (memoryAt bytes) start 24 ((length bytes - start) / 24))) where
             typed : are-allowed ≡ typesAllowed (contentsOf bytes .memories)
             unfolding contentsOf
@@ -118,7 +118,7 @@ module _ (bytes : List ℕ) where
                   sym signed ∙ not-false is-signed t2,
                   eq-eqb (lengthField bytes) (length bytes) (sym measured ∙ t3),
                   sym laid-out ∙ not-false is-laid-out t4,
-                  eq-eqb (wordSum bytes % 65536) 0 (ap (λ (n : ℕ). n % 65536) (sym summed) ∙ t5),
+                  eq-eqb (wordSum bytes % 65536) 0 (sym summed ∙ t5),
                   sym typed ∙ not-true are-allowed f,
                 )
 
@@ -131,7 +131,7 @@ module _ (bytes : List ℕ) where
                   sym signed ∙ not-false is-signed t2,
                   eq-eqb (lengthField bytes) (length bytes) (sym measured ∙ t3),
                   sym laid-out ∙ not-false is-laid-out t4,
-                  eq-eqb (wordSum bytes % 65536) 0 (ap (λ (n : ℕ). n % 65536) (sym summed) ∙ t5),
+                  eq-eqb (wordSum bytes % 65536) 0 (sym summed ∙ t5),
                   sym typed ∙ not-false are-allowed t,
                   length-spaced,
                   length-spaced,

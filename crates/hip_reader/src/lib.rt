@@ -140,7 +140,7 @@ pub fn read(bytes: &[u8]) -> Reading
     if !is_laid_out(bytes) {
         return Reading::Refused(Refusal::Layout);
     }
-    if hip_format::word_sum(bytes) % 65536 != 0 {
+    if hip_format::word_sum(bytes) != 0 {
         return Reading::Refused(Refusal::Checksum);
     }
     let start = endian::get16(bytes, MEMORY_OFFSET) as usize;

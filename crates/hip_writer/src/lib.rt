@@ -157,10 +157,10 @@ fn put_memories(
 
 // Sets the checksum of a page that stands at the start of a buffer with checksum 0.
 fn put_checksum(buffer: &mut [u8], size: usize)
-    requires { ⌜ (headerSize ≤ size) × (size ≤ greatestLength) × (size ≤ length (now buffer)) ⌝ }
+    requires { ⌜ (headerSize ≤ size) × (size ≤ length (now buffer)) ⌝ }
     ensures { λ r. ⌜ now (buffer .exit) ≡ written (now (buffer .entry)) 4 (bytesOf 2 (complement (wordSum (take size (now (buffer .entry)))))) ⌝ }
 {
-    let sum = hip_format::word_sum(&buffer[..size]) % 65536;
+    let sum = hip_format::word_sum(&buffer[..size]) as u32;
     endian::put16(buffer, CHECKSUM, ((65536 - sum) % 65536) as u16);
 }
 

@@ -9,6 +9,7 @@ mod descriptors;
 mod growth;
 mod journals;
 mod markdown;
+mod pages;
 mod plot;
 mod replay;
 mod tables;
@@ -23,7 +24,7 @@ use replay::{print_lines, MODEL, MODEL_WITHOUT_TEST};
 /// have their instructions counted.
 pub const COUNT: &str = "--count";
 
-const USAGE: &str = "usage: bench [--rounds N] [replay|growth|calls|descriptors|damage]...";
+const USAGE: &str = "usage: bench [--rounds N] [replay|growth|calls|descriptors|damage|pages]...";
 
 /// Rounds of each measurement, of which the best is printed.
 const ROUNDS: u32 = 21;
@@ -32,12 +33,13 @@ const ROUNDS: u32 = 21;
 type Measure = fn(u32) -> io::Result<()>;
 
 /// The sections of the document, in its order.
-const SECTIONS: [(&str, Measure); 5] = [
+const SECTIONS: [(&str, Measure); 6] = [
     ("replay", replay::measure),
     ("growth", growth::measure),
     ("calls", calls::measure),
     ("descriptors", calls::measure_descriptors),
     ("damage", calls::measure_damage_test),
+    (pages::PAGES, pages::measure),
 ];
 
 fn main() -> ExitCode {
@@ -46,6 +48,10 @@ fn main() -> ExitCode {
     let done = match words.as_slice() {
         [MODEL, file] => print_lines(file, model::journal::lines),
         [MODEL_WITHOUT_TEST, file] => print_lines(file, model::journal::lines_without_test),
+        [COUNT, pages::PAGES] => {
+            pages::count_once();
+            Ok(())
+        }
         [COUNT, section] => Section::from_name(section)
             .map(calls::count_once)
             .ok_or_else(usage),

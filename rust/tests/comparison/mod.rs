@@ -1,8 +1,9 @@
 //! The proved functions beside the model: both get the same words, and what
 //! they answer and write is compared after every call.
 
+mod same;
+
 use std::collections::BTreeMap;
-use std::fmt::Debug;
 
 use model::boot::{ROOT_EC, ROOT_SC};
 use model::generator::{journal, Kind, EC_SELECTOR, PD_SELECTOR, PT_SELECTOR, ROOT_SECOND_EC};
@@ -15,6 +16,9 @@ use rudozhev::words::{
     self, BLOCK_WORDS, OBJECT_WORDS, PLACES, PLACE_WIDTH, PLACE_WORDS, RECORD_WIDTH,
 };
 use rudozhev::{Damage, Location, ObjectNumber, Place, Refusal};
+
+pub use same::Difference;
+use same::{same, same_list};
 
 /// Both tables, of any length and content.
 #[derive(Clone, PartialEq, Eq)]
@@ -35,30 +39,9 @@ const SETTLED: [u32; 8] = [
     PT_SELECTOR + 1,
 ];
 
-/// What the proved functions and the model do not agree on.
-pub type Difference = String;
-
-fn same<T: PartialEq + Debug>(what: &str, proved: T, model: T) -> Result<(), Difference> {
-    if proved == model {
-        return Ok(());
-    }
-    let text = |value: T| {
-        let mut text = format!("{value:?}");
-        text.truncate(200);
-        text
-    };
-    Err(format!("{what}: proved {}, model {}", text(proved), text(model)))
-}
-
-fn same_words(what: &str, proved: &[u32], model: &[u32]) -> Result<(), Difference> {
-    same(&format!("length of {what}"), proved.len(), model.len())?;
-    let word = (0..proved.len()).find(|&word| proved[word] != model[word]);
-    word.map_or(Ok(()), |word| same(&format!("word {word} of {what}"), proved[word], model[word]))
-}
-
 fn same_tables(proved: &Words, model: &Words) -> Result<(), Difference> {
-    same_words("the place table", &proved.places, &model.places)?;
-    same_words("the object table", &proved.objects, &model.objects)
+    same_list("the place table", &proved.places, &model.places)?;
+    same_list("the object table", &proved.objects, &model.objects)
 }
 
 /// The model's reply as the crate gives it.
@@ -153,10 +136,10 @@ impl Comparison {
         *self.statuses.entry((built, model.status.number())).or_default() += 1;
         same(&format!("reply of hypercall {number}"), reply, expected(model))?;
         same_tables(tables, &other)?;
-        same_words("the target block", target, &other_target)?;
+        same_list("the target block", target, &other_target)?;
         if reply.is_err() {
             same_tables(tables, &before.0)?;
-            same_words("the target block of a refused call", target, &before.1)?;
+            same_list("the target block of a refused call", target, &before.1)?;
         }
         Ok(reply.err())
     }
@@ -174,7 +157,7 @@ impl Comparison {
         self.censuses += 1;
         *self.census_statuses.entry(model.status.number()).or_default() += 1;
         same(&format!("reply of the census of place {place}"), reply, expected(model))?;
-        same_words("the list", list, &other)?;
+        same_list("the list", list, &other)?;
         Ok(reply.err())
     }
 

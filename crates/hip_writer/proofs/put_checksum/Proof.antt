@@ -1,12 +1,10 @@
 -- The sum is that of the page without its checksum.
-use native.Mathlib.Omega.{arith}
 use mathlib.Core.Path.{sym, ap, _∙_}
 use Prim.Native.Nat.{ℕ, _-_, _%_}
 use lib.Seq.{length-take-le}
 use denote.Ref.{now}
 use Rattle.endian.specs.Parts.{written}
 use Rattle.endian.specs.Numbers.{bytesOf}
-use Rattle.hip_format.specs.Format.{complement}
 use borrow.Author.Needs.{needs}
 use Rattle.hip_writer.proofs.put_checksum.Statement.{statement}
 use Rattle.hip_writer.proofs.put_checksum.Tie as tie
@@ -16,11 +14,13 @@ slice-reshare-prefix-word-sum c = search needs
 
 slice-aggregate-word-sum : tie.Need-slice-aggregate-word-sum
 slice-aggregate-word-sum c = let start = c .before .before in
-    sym (length-take-le (start .args .size) (now (start .args .buffer)) (start .pre .2))
+    sym (length-take-le (start .args .size) (now (start .args .buffer)) (start .pre .1))
 
 word-sum-requires : tie.Need-word-sum-requires
-word-sum-requires c κs = let start = c .before .before in
-    rw (length-take-le (start .args .size) (now (start .args .buffer)) (start .pre .2)) (start .pre .1)
+word-sum-requires c κs = search needs
+
+cast-sum : tie.Need-cast-sum
+cast-sum c = search needs
 
 sub-put16 : tie.Need-sub-put16
 sub-put16 c = search needs
@@ -36,7 +36,7 @@ same-length c = search needs
 
 returns : tie.Need-returns
 returns c = let start = c .before .before .before .before .before .before .before in
-    c .before .before .put16 .ensures ∙ ap (λ (sum : ℕ). written (now (start .args .buffer)) 4 (bytesOf 2 (complement sum))) (c .before .before .before .before .word-sum .ensures)
+    c .before .before .put16 .ensures ∙ ap (λ (sum : ℕ). written (now (start .args .buffer)) 4 (bytesOf 2 ((65536 - sum) % 65536))) (c .before .before .before .before .word-sum .ensures)
 
 pub put-checksum-spec : {M : Type 1} → statement M
 put-checksum-spec =
@@ -45,6 +45,7 @@ put-checksum-spec =
     slice-reshare-prefix-word-sum
     slice-aggregate-word-sum
     word-sum-requires
+    cast-sum
     sub-put16
     cast-put16
     put16-requires
