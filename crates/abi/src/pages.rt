@@ -21,18 +21,7 @@ pub extern "C" fn rudozhev_hip_read(page: &[u8], fields: &mut [u32; 10]) -> u64
         Reading::Refused(refusal) => join(refusal.number(), 0),
         Reading::Accepted(summary) => {
             let header = summary.header;
-            *fields = [
-                header.features,
-                header.version,
-                header.sel,
-                header.exc,
-                header.vmi,
-                header.gsi,
-                header.pages,
-                header.utcbs,
-                header.tsc,
-                header.bus,
-            ];
+            *fields = header.fields();
             let memories = summary.memories as u64;
             let cpus = summary.cpus as u64;
             memories * 65536 + cpus

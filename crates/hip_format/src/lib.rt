@@ -3,7 +3,7 @@ ghost use Prim.Native.Nat.{_%_};
 ghost use mathlib.Core.Path.{_≡_};
 ghost use mir.Syntax.{w32};
 ghost use mir.Val.{toZ};
-ghost use Rattle.hip_format.specs.Format.{typeAllowed, wordSum};
+ghost use Rattle.hip_format.specs.Format.{typeAllowed, fields, wordSum};
 ghost use Rattle.hip_format.specs.Reader.{refusalNumber};
 ghost use Rattle.hip_format.specs.Writer.{writtenNumber};
 
@@ -21,6 +21,21 @@ pub const MEMORY_SIZE: usize = 24;
 
 pub const GREATEST_LENGTH: usize = 65535;
 
+// Where the header has the checksum, the length, the offset and the size of each part, and the fields of 32 bits.
+pub const CHECKSUM: usize = 4;
+
+pub const LENGTH: usize = 6;
+
+pub const CPU_OFFSET: usize = 8;
+
+pub const CPU_SIZE_FIELD: usize = 10;
+
+pub const MEMORY_OFFSET: usize = 12;
+
+pub const MEMORY_SIZE_FIELD: usize = 14;
+
+pub const FIELDS: usize = 16;
+
 // The ten fields of 32 bits: feature flags, API version, SEL, EXC, VMI and GSI, the sizes of pages and of UTCBs as a bit for each power of 2, and the frequencies of the time
 // stamp counter and of the bus in kHz.
 pub struct Header {
@@ -34,6 +49,26 @@ pub struct Header {
     pub utcbs: u32,
     pub tsc: u32,
     pub bus: u32,
+}
+
+impl Header {
+    // The fields in their order.
+    pub fn fields(self) -> [u32; 10]
+        ensures { λ r. ⌜ r ≡ fields self ⌝ }
+    {
+        [
+            self.features,
+            self.version,
+            self.sel,
+            self.exc,
+            self.vmi,
+            self.gsi,
+            self.pages,
+            self.utcbs,
+            self.tsc,
+            self.bus,
+        ]
+    }
 }
 
 // A CPU descriptor.

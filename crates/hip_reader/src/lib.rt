@@ -4,29 +4,23 @@ ghost use mathlib.Core.Path.{_≡_};
 ghost use lib.ListN.{length, take};
 ghost use Rattle.hip_format.specs.Format.{signature, headerSize, cpuSize, memorySize};
 ghost use Rattle.hip_format.specs.Reader.{headerAt, cpuAt, memoryAt, spaced, sameBytes, layoutGood, typesAllowed, judged, reading, cpuOf, memoryOf};
+use hip_format::CPU_OFFSET;
 use hip_format::CPU_SIZE;
+use hip_format::CPU_SIZE_FIELD;
 use hip_format::Cpu;
 use hip_format::FoundCpu;
 use hip_format::FoundMemory;
 use hip_format::HEADER_SIZE;
 use hip_format::Header;
+use hip_format::LENGTH;
+use hip_format::MEMORY_OFFSET;
 use hip_format::MEMORY_SIZE;
+use hip_format::MEMORY_SIZE_FIELD;
 use hip_format::Memory;
 use hip_format::Reading;
 use hip_format::Refusal;
 use hip_format::SIGNATURE;
 use hip_format::Summary;
-
-// Where the header has the length, the offset and the size of each part.
-const LENGTH: usize = 6;
-
-const CPU_OFFSET: usize = 8;
-
-const CPU_SIZE_FIELD: usize = 10;
-
-const MEMORY_OFFSET: usize = 12;
-
-const MEMORY_SIZE_FIELD: usize = 14;
 
 // Where a memory descriptor has its type.
 const TYPE: usize = 16;

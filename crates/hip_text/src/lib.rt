@@ -10,6 +10,7 @@ ghost use Rattle.hip_format.specs.Reader.{cpuAt, memoryAt, spaced, typesAllowed
 ghost use Rattle.hip_format.specs.declared.Reading.the-variants.{Accepted};
 ghost use Rattle.texts.specs.Texts.{Wrote};
 ghost use Rattle.hip_text.specs.PageText.{column, hex, hexColumn, refusalLine, titleLine, bitsLine, numberLine, frequencyLine, headerLines, cpuRow, cpuLines, typeEnd, memoryRow, memoryLines, pageLines, countOf, lineBytes, Spells};
+use hip_format::CHECKSUM;
 use hip_format::CPU_SIZE;
 use hip_format::Cpu;
 use hip_format::HEADER_SIZE;
@@ -29,9 +30,6 @@ pub struct Spelled {
 
 // The bytes of the longest line.
 pub const LINE_BYTES: usize = 87;
-
-// Where the header has the checksum.
-const CHECKSUM: usize = 4;
 
 // The lines of the header's fields, and those above the rows of a table: an empty one and the heads.
 const FIELDS: usize = 10;

@@ -8,7 +8,9 @@ ghost use Rattle.endian.specs.Numbers.{bytesOf};
 ghost use Rattle.hip_format.specs.Format.{signature, headerSize, cpuSize, memorySize, greatestLength, fields, memoryBytes, bytesOfEach, wordSum, complement, page};
 ghost use Rattle.hip_format.specs.Reader.{spaced, typesAllowed};
 ghost use Rattle.hip_format.specs.Writer.{memoryGiven, shortest, given, writing};
+use hip_format::CHECKSUM;
 use hip_format::CPU_SIZE;
+use hip_format::FIELDS;
 use hip_format::GREATEST_LENGTH;
 use hip_format::HEADER_SIZE;
 use hip_format::Header;
@@ -20,11 +22,6 @@ use hip_format::Written;
 const MOST_CPUS: usize = (GREATEST_LENGTH - HEADER_SIZE) / CPU_SIZE;
 
 const MOST_MEMORIES: usize = (GREATEST_LENGTH - HEADER_SIZE) / MEMORY_SIZE;
-
-// Where the checksum stands, and where the fields of 32 bits begin.
-const CHECKSUM: usize = 4;
-
-const FIELDS: usize = 16;
 
 // The smaller of two numbers.
 fn least(a: usize, b: usize) -> usize
@@ -94,20 +91,16 @@ fn put_header(buffer: &mut [u8], header: Header, size: u16, start: u16)
         (signature ++ bytesOfEach (bytesOf 2) (0 ∷ size ∷ headerSize ∷ cpuSize ∷ start ∷ memorySize ∷ []) ++ bytesOfEach (bytesOf 4) (fields header)) ⌝ }
 {
     endian::put_bytes(buffer, 0, &SIGNATURE);
-    let short_fields = [0u16, size, 56, 4, start, 24];
-    put16s(buffer, CHECKSUM, &short_fields);
-    let long_fields = [
-        header.features,
-        header.version,
-        header.sel,
-        header.exc,
-        header.vmi,
-        header.gsi,
-        header.pages,
-        header.utcbs,
-        header.tsc,
-        header.bus,
+    let short_fields = [
+        0u16,
+        size,
+        HEADER_SIZE as u16,
+        CPU_SIZE as u16,
+        start,
+        MEMORY_SIZE as u16,
     ];
+    put16s(buffer, CHECKSUM, &short_fields);
+    let long_fields = header.fields();
     put32s(buffer, FIELDS, &long_fields);
 }
 

@@ -22,6 +22,9 @@ join-requires c κs = search needs
 enum-known-found-2 : tie.Need-enum-known-found-2
 enum-known-found-2 c = search needs
 
+fields-requires : tie.Need-fields-requires
+fields-requires c κs = search needs
+
 mul-result : tie.Need-mul-result
 mul-result c = let bytes = now (c .before .before .before .before .before .before .before .args .page) in
     let page = accepts bytes _ _ (c .before .before .before .before .before .read .ensures) (c .before .before .before .found2 .given .1) in
@@ -38,7 +41,7 @@ returns c = let start = c .before .before .before .before .before .before .befor
 
 returns-2 : tie.Need-returns-2
 returns-2 c = let start = c .before .before .before .before .before .before .before .args in
-    reads-accepted (now (start .page)) (now (start .fields)) _ (accepts (now (start .page)) _ _ (c .before .before .before .before .before .read .ensures) (c .before .before .before .found2 .given .1))
+    rw (c .fields .ensures) (reads-accepted (now (start .page)) (now (start .fields)) _ (accepts (now (start .page)) _ _ (c .before .before .before .before .before .read .ensures) (c .before .before .before .found2 .given .1)))
 
 pub rudozhev-hip-read-spec : {M : Type 1} → statement M
 rudozhev-hip-read-spec =
@@ -49,6 +52,7 @@ rudozhev-hip-read-spec =
     number-requires
     join-requires
     enum-known-found-2
+    fields-requires
     mul-result
     add-result
     returns
