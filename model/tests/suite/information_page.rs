@@ -1017,3 +1017,24 @@ fn the_stored_pages_are_read_as_they_must_be() {
     let files = fs::read_dir(directory).expect("a readable directory");
     assert_eq!((files.count(), counts[0]), (80, 19));
 }
+
+#[test]
+fn the_program_prints_the_text_of_its_pages() {
+    let program = Path::new(env!("CARGO_MANIFEST_DIR")).join("../crates/hip");
+    let words = fs::read_to_string(program.join("args")).expect("readable arguments");
+    let mut expected = String::new();
+    let mut missing = Vec::new();
+    for word in words.lines() {
+        let path = match word {
+            "-" => program.join("stdin"),
+            name => program.join("data").join(name),
+        };
+        match fs::read(path) {
+            Ok(bytes) => expected += &text(&bytes),
+            Err(_) => missing.push(word),
+        }
+    }
+    assert_eq!(missing, ["absent.page", "."]);
+    let stored = fs::read_to_string(program.join("stdout")).expect("stored output");
+    assert_eq!(stored, expected);
+}
