@@ -15,7 +15,7 @@ use reply::Reply;
 use words::{ranges, sizes};
 
 // What one creation has of its own: the new object's words, what its own tests came to, and the initial range of a new PD.
-#[derive(Drop)]
+#[derive(Clone, Copy)]
 pub struct Creation {
     pub object: Record,
     pub bindable: bool,
@@ -26,7 +26,7 @@ pub struct Creation {
 }
 
 // What the checks of a creation come to: the record that the new object takes, or a refusal.
-#[derive(Drop)]
+#[derive(Clone, Copy)]
 enum Checked {
     Takes(ObjectNumber),
     Refused(Reply),

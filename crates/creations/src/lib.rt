@@ -22,7 +22,7 @@ const BIND_SC: u32 = 1;
 const BIND_PT: u32 = 2;
 
 // The EC that an SC or a PT is bound to, and whether its capability permits that.
-#[derive(Drop)]
+#[derive(Clone, Copy)]
 struct Binding {
     ec: u32,
     permitted: bool,

@@ -11,7 +11,7 @@ use words::{ranges, sizes};
 pub mod theorems;
 
 // A range of selectors of a space, and a mask.
-#[derive(Drop)]
+#[derive(Clone, Copy)]
 pub struct Range {
     space: u32,
     base: u32,
@@ -59,7 +59,7 @@ impl Range {
 }
 
 // What a descriptor says: nothing, no range, or a range.
-#[derive(Drop)]
+#[derive(Clone, Copy)]
 pub enum Reading {
     Null,
     Malformed,
@@ -67,7 +67,7 @@ pub enum Reading {
 }
 
 // Why a typed item is received as null.
-#[derive(Drop)]
+#[derive(Clone, Copy)]
 pub enum Reason {
     NullDescriptor,
     MalformedDescriptor,
@@ -77,14 +77,14 @@ pub enum Reason {
 }
 
 // An item's range and its window, or why the item is null.
-#[derive(Drop)]
+#[derive(Clone, Copy)]
 pub enum Match {
     Both(Range, Range),
     Neither(Reason),
 }
 
 // What the receiver of a typed item is shown: nothing, for a reason, or a range.
-#[derive(Drop)]
+#[derive(Clone, Copy)]
 pub enum Received {
     NullItem(Reason),
     Shows(Range),
@@ -162,7 +162,7 @@ fn is_range(space: u32, order: u32, base: u32) -> bool
 }
 
 // A range descriptor, as its word. Every word of type 0 is the null descriptor.
-#[derive(Drop)]
+#[derive(Clone, Copy)]
 pub struct Descriptor(u32);
 
 impl Descriptor {

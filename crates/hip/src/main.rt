@@ -5,7 +5,7 @@ ghost use Rattle.hip_text.specs.PageText.{line_bytes};
 use libc::{STDIN_FILENO, STDOUT_FILENO};
 
 // What was read of a page: how many bytes, and whether no read failed.
-#[derive(Drop)]
+#[derive(Clone, Copy)]
 struct Taken {
     filled: usize,
     is_read: bool,

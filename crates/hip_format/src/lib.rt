@@ -37,7 +37,7 @@ pub const FIELDS: usize = 16;
 
 // The ten fields of 32 bits: feature flags, API version, SEL, EXC, VMI and GSI, the sizes of pages and of UTCBs as a bit for each power of 2, and the frequencies of the time
 // stamp counter and of the bus in kHz.
-#[derive(Drop)]
+#[derive(Clone, Copy)]
 pub struct Header {
     pub features: u32,
     pub version: u32,
@@ -72,7 +72,7 @@ impl Header {
 }
 
 // A CPU descriptor.
-#[derive(Drop)]
+#[derive(Clone, Copy)]
 pub struct Cpu {
     pub flags: u8,
     pub thread: u8,
@@ -81,7 +81,7 @@ pub struct Cpu {
 }
 
 // A memory descriptor.
-#[derive(Drop)]
+#[derive(Clone, Copy)]
 pub struct Memory {
     pub address: u64,
     pub size: u64,
@@ -90,7 +90,7 @@ pub struct Memory {
 }
 
 // Why bytes are no page, in the order of the tests.
-#[derive(Drop)]
+#[derive(Clone, Copy)]
 pub enum Refusal {
     Short,
     Signature,
@@ -117,7 +117,7 @@ impl Refusal {
 }
 
 // What is read of a page beside its descriptors: the header, and how many there are.
-#[derive(Drop)]
+#[derive(Clone, Copy)]
 pub struct Summary {
     pub header: Header,
     pub cpus: usize,
@@ -125,28 +125,28 @@ pub struct Summary {
 }
 
 // What reading some bytes comes to.
-#[derive(Drop)]
+#[derive(Clone, Copy)]
 pub enum Reading {
     Refused(Refusal),
     Accepted(Summary),
 }
 
 // A CPU descriptor of a page, where there is one.
-#[derive(Drop)]
+#[derive(Clone, Copy)]
 pub enum FoundCpu {
     Nothing,
     At(Cpu),
 }
 
 // A memory descriptor of a page, where there is one.
-#[derive(Drop)]
+#[derive(Clone, Copy)]
 pub enum FoundMemory {
     Nothing,
     At(Memory),
 }
 
 // What writing a page comes to: its length, or why it is not written, in the order of the tests.
-#[derive(Drop)]
+#[derive(Clone, Copy)]
 pub enum Written {
     Done(usize),
     Type,

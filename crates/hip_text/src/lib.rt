@@ -13,7 +13,7 @@ use hip_format::{
 };
 
 // What was written of a page's text: the number of the next line, how many bytes, and how many lines the page has.
-#[derive(Drop)]
+#[derive(Clone, Copy)]
 pub struct Spelled {
     pub next: usize,
     pub count: usize,

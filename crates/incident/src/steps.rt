@@ -42,7 +42,7 @@ fn has_words(table: &[u32], other: &[u32]) -> bool
 }
 
 // The table of places, the table of objects, and what the last LOOKUP answered.
-#[derive(Drop)]
+#[derive(Clone, Copy)]
 pub(crate) struct Machine(
     [u32; sizes::PLACE_TABLE_WORDS],
     [u32; sizes::OBJECT_TABLE_WORDS],

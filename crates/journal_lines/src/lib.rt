@@ -7,7 +7,7 @@ ghost use Rattle.texts.specs.Texts.{Wrote};
 ghost use Rattle.journal_lines.specs.Lines.{line_bytes, fitting};
 
 // A line: of a record that was done, of one that is short, of a kind that is none, and the last one with the number of records done.
-#[derive(Drop)]
+#[derive(Clone, Copy)]
 pub enum Line {
     Done {
         index: u64,

@@ -8,38 +8,38 @@ ghost use Rattle.layout.specs.Numbers.{selected, placed, link_of, linked, number
 
 use words::sizes;
 
-#[derive(Drop)]
+#[derive(Clone, Copy)]
 pub struct Selector(u32);
 
-#[derive(Drop)]
+#[derive(Clone, Copy)]
 pub struct Place(u32);
 
-#[derive(Drop)]
+#[derive(Clone, Copy)]
 pub struct ObjectNumber(u32);
 
 // A selector of a space, if a word names one.
-#[derive(Drop)]
+#[derive(Clone, Copy)]
 pub enum FoundSelector {
     Named(Selector),
     Outside,
 }
 
 // A place, if a word is the number of one or leads to one.
-#[derive(Drop)]
+#[derive(Clone, Copy)]
 pub enum FoundPlace {
     At(Place),
     Nowhere,
 }
 
 // An object number, if a word is one.
-#[derive(Drop)]
+#[derive(Clone, Copy)]
 pub enum FoundObject {
     Numbered(ObjectNumber),
     Beyond,
 }
 
 // A capability as a place holds it: the resource's number, the permissions, the parent place plus 1 (0: none), and the depth.
-#[derive(Drop)]
+#[derive(Clone, Copy)]
 pub struct Cap {
     pub resource: u32,
     pub permissions: u32,

@@ -48,7 +48,7 @@ pub const IDENTIFIER: usize = 4;
 pub const COUNT: usize = 1;
 
 // The words of a record, in its order: the kind, and those that objects of the kind have, with 0 after them.
-#[derive(Drop)]
+#[derive(Clone, Copy)]
 pub struct Record(pub u32, pub u32, pub u32, pub u32, pub u32);
 
 // The greatest permissions of an object of a kind.

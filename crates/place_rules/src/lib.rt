@@ -15,7 +15,7 @@ const WHOLE: u64 = 1 << 32;
 const PART: u64 = (WHOLE - 1) / sizes::STRIDE as u64 + 1;
 
 // A space, and where it begins and ends in its domain, in such parts.
-#[derive(Drop)]
+#[derive(Clone, Copy)]
 pub struct Extent {
     pub space: u32,
     from: u64,

@@ -10,7 +10,7 @@ ghost use Rattle.playback.specs.Playing.{found_in, stop_of, Plays, Stops, Replay
 use journal_lines::Line;
 
 // What begins at a position of a journal: nothing, a kind that is none, a record that is short, or a whole one with its kind and the bytes of its body.
-#[derive(Drop)]
+#[derive(Clone, Copy)]
 pub enum Found {
     Nothing,
     Unknown(u8),
@@ -19,7 +19,7 @@ pub enum Found {
 }
 
 // How far some bytes were played.
-#[derive(Drop)]
+#[derive(Clone, Copy)]
 pub struct Played {
     // The bytes of the records that were done, and what begins after them.
     pub at: usize,
@@ -31,7 +31,7 @@ pub struct Played {
 }
 
 // What replaying a journal comes to: all its records and the bytes of its lines; those for which the buffer had room; or that the tables lent have other lengths.
-#[derive(Drop)]
+#[derive(Clone, Copy)]
 pub enum Replayed {
     Complete(u64, usize),
     TooShort(u64, usize),

@@ -16,7 +16,7 @@ const GREATEST_PRIORITY: u32 = 255;
 const GREATEST_QUANTUM: u32 = 1048575;
 
 // The number of PDs, if used records come first and PDs number their domains in turn.
-#[derive(Drop)]
+#[derive(Clone, Copy)]
 pub enum CountedPds {
     InTurn(u32),
     OutOfTurn,

@@ -3,7 +3,7 @@ ghost use Rattle.std.specs.Prelude.{◌≡◌};
 ghost use Rattle.reply.specs.Replies.{status_of, answer_of};
 
 // The answer of a hypercall or a census, with a value only where its status has one.
-#[derive(Drop)]
+#[derive(Clone, Copy)]
 pub enum Reply {
     Success(u32),
     ComTim,
@@ -49,7 +49,7 @@ impl Reply {
 }
 
 // Which rule of damage is the first that tables break, and the lowest record or place that breaks it.
-#[derive(Drop)]
+#[derive(Clone, Copy)]
 pub enum Fault {
     NoFault,
     Lengths,

@@ -11,7 +11,7 @@ use layout::{FoundObject, ObjectNumber};
 use reply::Reply;
 
 // The six words after a hypercall's number and its caller: a call takes as many as it has.
-#[derive(Drop)]
+#[derive(Clone, Copy)]
 pub struct CallWords {
     pub first: u32,
     pub second: u32,
@@ -22,7 +22,7 @@ pub struct CallWords {
 }
 
 // A caller that is an EC, or the refusal.
-#[derive(Drop)]
+#[derive(Clone, Copy)]
 enum Admitted {
     Ec(ObjectNumber),
     Refused(Reply),

@@ -21,7 +21,7 @@ use words::sizes;
 const ITEM_WORDS: usize = 2;
 
 // What one typed item comes to: what the receiver is shown, and how many places were filled.
-#[derive(Drop)]
+#[derive(Clone, Copy)]
 struct Outcome {
     received: Received,
     filled: u32,

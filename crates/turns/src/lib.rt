@@ -8,7 +8,7 @@ ghost use Rattle.turns.specs.Buffers.{Waits, Inside, is_end, fronted, Turn};
 use playback::Found;
 
 // How far the replay of a journal is.
-#[derive(Drop)]
+#[derive(Clone, Copy)]
 pub struct Progress {
     // The bytes at the front of the input buffer that were read, and where among them the next record begins.
     pub filled: usize,

@@ -1,0 +1,231 @@
+#!/usr/bin/env python3
+"""Turns proofs that list their goals, `tie.close (tie.spec ..)`, to Invariants.antt and Answers.antt: run it at the top, as answers.py NAMES BEFORE CRATE..
+
+NAMES holds what `rt names` wrote of the crates, BEFORE a checkout of the repository before it was turned. An answer that only searches goes. What it cannot turn it says.
+"""
+import glob
+import json
+import os
+import re
+import sys
+
+NAME = r'[^\s(){}.;,@"«»\[\]]+'
+TOP = re.compile(r"(?m)^(?=\S)")
+
+
+def norm(name):
+    return name.replace("_", "-").replace("′", "'")
+
+
+def items_of(text):
+    """The items at the left margin, each with the comments above it."""
+    parts, held = [], ""
+    for block in re.split(r"(?m)^(?=\S)", text):
+        if not block.strip():
+            continue
+        if block.startswith("--"):
+            held += block
+            continue
+        parts.append((held, block))
+        held = ""
+    return parts, held
+
+
+class Function:
+    def __init__(self, crate, folder, facts, said):
+        self.crate, self.folder, self.facts, self.said = crate, folder, facts, said
+        self.where = f"crates/{crate}/proofs/{folder}"
+        self.steps, self.arms = {}, []
+        self.callee = {}
+        for at, place in enumerate(facts["places"]):
+            old, new = place[2]
+            if old:
+                self.steps.setdefault(norm(old), new)
+                if place[3]:
+                    self.callee.setdefault(norm(old), place[3])
+        for arm in facts["arms"]:
+            if arm:
+                for field, old, path in arm[2]:
+                    self.arms.append((arm[0], field, norm(old), [norm(p) for p in path]))
+        self.needs = {}
+        for old, new in facts["needs"]:
+            self.needs[norm(old)] = new
+
+    def say(self, text):
+        self.said.append(f"{self.where}: {text}")
+
+    def path(self, fields):
+        """What stands behind a place: fields after the `.before`s."""
+        while fields and fields[0] == "before":
+            fields = fields[1:]
+        if not fields:
+            return None
+        first = norm(fields[0])
+        if first in ("args", "requires", "ranges", "type-inv", "well-formed", "utf8"):
+            return "c." + ".".join(fields)
+        rest = [norm(f) for f in fields[1:]]
+        best = None
+        for step, field, old, path in self.arms:
+            if old == first and rest[: len(path)] == path and path and (best is None or len(path) > len(best[2])):
+                best = (step, field, path)
+        if best and not (first in self.steps and best[2] == []):
+            step, field, path = best
+            return ".".join(["c", step, field] + fields[1 + len(path):])
+        if first in self.steps:
+            tail = fields[1:]
+            if tail and tail[0] == "new" and first in self.callee:
+                params = self.facts["params"].get(self.callee[first])
+                n = 1
+                while n < len(tail) and tail[n] == "1":
+                    n += 1
+                if params and n < len(tail) and tail[n] == "0" and n - 1 < len(params):
+                    tail = ["new", params[n - 1]] + tail[n + 1:]
+                elif len(tail) > 1 and tail[1] in ("0", "1"):
+                    self.say(f"new: {'.'.join(fields)}")
+            return ".".join(["c", self.steps[first]] + tail)
+        self.say(f"no step {fields[0]} in {'.'.join(fields)}")
+        return "c." + ".".join(fields)
+
+    def answer(self, text):
+        """Turns the paths of an answer's right side."""
+        places = {"c"}
+        while True:
+            m = None
+            for it in re.finditer(r"let (" + NAME + r") = (" + NAME + r")((?:\.before)+) in\s*", text):
+                if it[2] in places:
+                    m = it
+                    break
+            if not m:
+                break
+            places.add(m[1])
+            text = text[: m.start()] + text[m.end():]
+        def one(m):
+            if m[1] not in places:
+                return m[0]
+            return self.path(m[2][1:].split(".")) or m[0]
+        text = re.sub(r"(?<![^\s(){}.;,@\[\]])(?<!\.)(" + NAME + r")((?:\.(?:" + NAME + r"))+)", one, text)
+        for it in places - {"c"}:
+            if re.search(r"(?<![^\s(){};,@\[\]])(?<!\.)" + re.escape(it) + r"(?![^\s(){};,@\[\]])", text):
+                self.say(f"the place {it} stands alone")
+        return text
+
+    def turn(self, text, before):
+        parts, end = items_of(text)
+        old_goals = dict()
+        sig = re.compile(r"^(?:abbrev )?(?:pub )?(" + NAME + r") : tie\.(" + NAME + r")")
+        old_sigs = [m[2] for _, b in items_of(before)[0] if (m := sig.match(b))]
+        new_sigs = [m[2] for _, b in parts if (m := sig.match(b))]
+        paired = dict(zip(range(len(new_sigs)), old_sigs)) if len(old_sigs) == len(new_sigs) else {}
+        uses, invariants, answers, helpers, head = [], [], [], [], ""
+        at, n = 0, -1
+        index = 0
+        while index < len(parts):
+            comment, block = parts[index]
+            index += 1
+            if block.startswith(("use ", "pub use ")):
+                if not uses and comment:
+                    head = comment
+                elif comment:
+                    helpers.append(comment)
+                if not re.search(r"\.(Statement\.\{statement\}|Tie as tie)\s*$", block.strip()) and "borrow.Author.Rules.{rules}" not in block:
+                    uses.append(block)
+                elif "borrow.Author.Rules" in block:
+                    uses.append(block)
+                continue
+            m = sig.match(block)
+            if not m:
+                if re.match(r"pub " + NAME + r" :.*statement M", block):
+                    index += 1
+                    continue
+                helpers.append(comment + block)
+                while index < len(parts) and not sig.match(parts[index][1]) and not parts[index][1].startswith("pub ") :
+                    helpers.append(parts[index][0] + parts[index][1])
+                    index += 1
+                continue
+            n += 1
+            name, goal = m[1], m[2]
+            body_comment, body = "", ""
+            middle = ""
+            if index < len(parts) and parts[index][1].startswith("unfolding "):
+                middle = parts[index][1]
+                index += 1
+            clauses = []
+            while index < len(parts) and parts[index][1].split()[0] == name:
+                clauses.append(parts[index][0] + parts[index][1])
+                index += 1
+            if goal.startswith(("invariant", "decreases")):
+                invariants.append((goal, comment, "".join(clauses), name))
+                continue
+            if not goal.startswith("Need-"):
+                self.say(f"goal {goal}")
+                helpers.append(comment + block + middle + "".join(clauses))
+                continue
+            goal = goal[5:]
+            tries = [goal, paired.get(n, "")[5:], re.sub(r"^(overflow|nonzero)-", "", goal)]
+            new = next((self.needs[norm(t)] for t in tries if norm(t) in self.needs), None)
+            if new is None:
+                self.say(f"no goal for {goal} ({paired.get(n)})")
+                new = goal
+            answers.append((new, comment, middle, clauses, name))
+        out_i, out_a = [], []
+        loops = {norm(l[0][0]): (l[0][1], l[1], ch) for l, ch in zip(self.facts["loops"], self.facts["changed"])}
+        for goal, comment, clause, name in invariants:
+            kind, loop = goal.split("-", 1)
+            if norm(loop) not in loops:
+                self.say(f"no loop {goal}: {list(loops)}")
+                out_i.append(comment + f"abbrev pub {goal} : goal.{goal}\n" + clause)
+                continue
+            new, names, changed = loops[norm(loop)]
+            m = re.match(re.escape(name) + r"((?: +\S+)*?) =(?=\s)", clause)
+            params = m[1].split() if m else []
+            want = [(f"l.initial.{v}" if c else f"l.{v}") for v, c in zip(names, changed)] + [f"l.{v}" for v, c in zip(names, changed) if c]
+            if len(want) != len(params):
+                self.say(f"{goal}: {len(params)} parameters, and {len(want)} expected: {params} {want}")
+            body = clause[m.end():]
+            for p, w in zip(params, want):
+                if p != "_":
+                    body = re.sub(r"(?<![^\s(){};,@\[\]])(?<!\.)" + re.escape(p) + r"(?![^\s(){}.;,@\[\]])", lambda _: w.replace("l.", "\0."), body)
+            body = body.replace("\0.", "l.")
+            out_i.append(comment + f"abbrev pub {kind}-{new} : goal.{kind}-{new}\n{kind}-{new} l ={body.rstrip()}\n\n")
+        for new, comment, middle, clauses, name in answers:
+            text = "".join(clauses)
+            if re.fullmatch(re.escape(name) + r" c( κs)? =\s*search rules\s*", text) and not middle:
+                continue
+            text = text.replace(name, new, 1) if len(clauses) == 1 else re.sub(r"(?m)^" + re.escape(name) + r"(?=\s)", new, text)
+            text = re.sub(r"^(" + re.escape(new) + r" c) κs(?= )", r"\1", text)
+            text = self.answer(text)
+            out_a.append(comment + f"pub {new} : goal.{new}\n" + middle + text.rstrip() + "\n\n")
+        here = f"Rattle.{self.crate}.proofs.{self.folder.replace('/', '.')}"
+        files = {}
+        if out_i:
+            files["Invariants.antt"] = head + "".join(uses) + f"use {here}.Given as goal\n\n" + "".join(out_i)
+        if out_a or helpers:
+            files["Answers.antt"] = head + "".join(uses) + f"use {here}.Goals as goal\n\n" + "".join(helpers) + "".join(out_a) + end
+        return {k: v.rstrip() + "\n" for k, v in files.items()}
+
+
+def main(names, before, crates):
+    said = []
+    for crate in crates:
+        facts = json.load(open(f"{names}/{crate}/names.json"))
+        for path in sorted(glob.glob(f"crates/{crate}/proofs/**/Proof.antt", recursive=True)):
+            folder = os.path.dirname(path)[len(f"crates/{crate}/proofs/"):]
+            text = open(path, encoding="utf-8").read()
+            key = f"Rattle-{crate}-proofs.{folder.replace('/', '.')}.Lts"
+            if "tie.close" not in text or key not in facts:
+                said.append(f"{path}: left as it is ({key in facts})")
+                continue
+            old = f"{before}/{path}"
+            function = Function(crate, folder, facts[key], said)
+            files = function.turn(text, open(old, encoding="utf-8").read() if os.path.exists(old) else text)
+            os.remove(path)
+            for name, new in files.items():
+                open(os.path.join(os.path.dirname(path), name), "w", encoding="utf-8").write(new)
+            if not os.listdir(os.path.dirname(path)):
+                os.rmdir(os.path.dirname(path))
+    print("\n".join(said))
+    return 0
+
+
+if __name__ == "__main__":
+    sys.exit(main(sys.argv[1], sys.argv[2], sys.argv[3:]))
