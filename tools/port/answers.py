@@ -14,7 +14,7 @@ TOP = re.compile(r"(?m)^(?=\S)")
 
 
 def norm(name):
-    return name.replace("_", "-").replace("′", "'")
+    return re.sub("_lem$", "", name).replace("_", "-").replace("′", "'")
 
 
 def items_of(text):
@@ -163,6 +163,8 @@ class Function:
             goal = goal[5:]
             tries = [goal, paired.get(n, "")[5:], re.sub(r"^(overflow|nonzero)-", "", goal)]
             new = next((self.needs[norm(t)] for t in tries if norm(t) in self.needs), None)
+            if new is None and re.fullmatch(re.escape(name) + r" c( κs)? =\s*search rules\s*", "".join(clauses)) and not middle:
+                continue
             if new is None:
                 self.say(f"no goal for {goal} ({paired.get(n)})")
                 new = goal

@@ -1,5 +1,7 @@
 // The functions that programs in other languages link: a slice passes as a pointer and a length, and a reply as one number, its status in the high and its answer in the low
 // 32 bits.
+#![tactic(auto)]
+
 pub mod pages;
 
 ghost use Rattle.std.specs.Prelude.{◌≡◌, length};

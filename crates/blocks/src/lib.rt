@@ -1,4 +1,6 @@
 // The message block: its counts, its untyped part, and copying the untyped words.
+#![tactic(auto)]
+
 ghost use Rattle.std.specs.Prelude.{◌+◌, ◌≤◌, ◌≡◌, length, drop};
 ghost use Rattle.std.proofs.Math.Seq.{paste};
 ghost use Rattle.interface.specs.Message.{head_words, untyped_count, typed_count, payload_fits, untyped_part, untyped_copied};

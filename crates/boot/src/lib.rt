@@ -1,4 +1,6 @@
 // Boot: the tables as they are when the controller starts.
+#![tactic(auto)]
+
 ghost use Rattle.std.specs.Prelude.{◌≡◌, ◌<◌};
 ghost use Rattle.words.specs.Sizes.{memory, selectors};
 ghost use Rattle.interface.specs.Basics.{word};

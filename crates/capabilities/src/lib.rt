@@ -1,4 +1,6 @@
 // What the calls share: the caller's domain, the place of a selector in it, and whether a place holds a capability with a permission.
+#![tactic(auto)]
+
 ghost use Rattle.std.specs.Prelude.{◌≡◌, ◌<◌};
 ghost use Rattle.words.specs.Sizes.{domains};
 ghost use Rattle.words.specs.Sizes.{places as placeCount};

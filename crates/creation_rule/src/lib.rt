@@ -1,4 +1,6 @@
 // The rule that the five CREATE calls share: the checks in their order, and the steps in theirs.
+#![tactic(auto)]
+
 ghost use Rattle.std.specs.Prelude.{true, ◌≡◌, ◌^◌, ◌<◌, ◌≤◌};
 ghost use Rattle.words.specs.Sizes.{domains, object};
 ghost use Rattle.descriptor.specs.Descriptors.{Proper};

@@ -1,4 +1,6 @@
 // The five CREATE calls, each on sound tables.
+#![tactic(auto)]
+
 ghost use Rattle.std.specs.Prelude.{◌≡◌, ◌<◌};
 ghost use Rattle.words.specs.Sizes.{domains};
 ghost use Rattle.interface.specs.Places.{EC, object_place, object_in, permitted, tables, view};

@@ -1,4 +1,6 @@
 // Delegating a typed item: its places to those of its window, offset by offset.
+#![tactic(auto)]
+
 ghost use Rattle.std.specs.Prelude.{◌+◌, ◌^◌, ◌<◌};
 ghost use Rattle.words.specs.Sizes.{domains, place_of};
 ghost use Rattle.interface.specs.Message.{delegations};

@@ -1,4 +1,6 @@
 // Which places descend from some places, by walks along parent links: the nearest ancestor among them, and the marks of all their strict descendants.
+#![tactic(auto)]
+
 ghost use Rattle.std.specs.Prelude.{◌≡◌, ℕ, ◌+◌, ◌%◌, ◌<◌, ◌≤◌, false, length};
 ghost use Rattle.words.specs.Sizes.{places};
 ghost use Rattle.interface.specs.Places.{cap_at};

@@ -1,4 +1,6 @@
 // The range descriptor: a range of selectors of a space with a mask, its word, reading a word, matching an item's range with its window, and why an item is null.
+#![tactic(auto)]
+
 ghost use Rattle.std.specs.Prelude.{◌≡◌, ◌+◌, ◌^◌, ◌<◌};
 ghost use Rattle.words.specs.Sizes.{selectors};
 ghost use Rattle.descriptor.specs.declared.Reading.TheVariants.{Malformed};

@@ -1,4 +1,6 @@
 // The dump, both tables as bytes: its sizes.
+#![tactic(auto)]
+
 use words::sizes;
 
 pub mod theorems;

@@ -1,4 +1,6 @@
 // Little-endian numbers in byte slices: each width is two of the next smaller one, the low half first.
+#![tactic(auto)]
+
 pub mod theorems;
 
 ghost use Rattle.std.specs.Prelude.{◌+◌, ◌*◌, ◌≤◌, ◌≡◌, [], ◌∷◌, length};

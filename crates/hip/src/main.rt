@@ -1,4 +1,6 @@
 // Prints information pages as text: those that the arguments name, one after the other, or the one on standard input.
+#![tactic(auto)]
+
 ghost use Rattle.std.specs.Prelude.{◌≤◌, length};
 ghost use Rattle.hip_text.specs.PageText.{line_bytes};
 

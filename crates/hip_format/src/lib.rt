@@ -1,4 +1,6 @@
 // The information page: its sizes, what it holds, why a page is refused, which types are allowed, and the sum of its words.
+#![tactic(auto)]
+
 ghost use Rattle.std.specs.Prelude.{◌%◌, ◌≡◌};
 ghost use Rattle.std.specs.Int.{w32};
 ghost use Rattle.std.proofs.Common.{to_z};

@@ -1,4 +1,6 @@
 // Reading an information page from bytes of any length and content.
+#![tactic(auto)]
+
 ghost use Rattle.std.specs.Prelude.{◌+◌, ◌*◌, ◌≤◌, ◌≡◌, length, take};
 ghost use Rattle.endian.specs.Runs.{spaced};
 ghost use Rattle.hip_format.specs.Format.{signature, header_size, cpu_size, memory_size};

@@ -1,4 +1,6 @@
 // An information page as text: a table of its CPUs and one of its memory, below the fields of its header.
+#![tactic(auto)]
+
 ghost use Rattle.std.specs.Prelude.{◌+◌, ◌*◌, ◌^◌, ◌≤◌, ◌<◌, ◌≡◌, true, [], length, get_or};
 ghost use Rattle.endian.specs.Runs.{spaced};
 ghost use Rattle.interface.specs.Journal.{decimal};

@@ -1,4 +1,6 @@
 // Writing an information page into a lent buffer.
+#![tactic(auto)]
+
 ghost use Rattle.std.specs.Prelude.{ℕ, ◌+◌, ◌*◌, ◌/◌, ◌≤◌, min, ◌≡◌, List, [], ◌∷◌, ◌++◌, length, take};
 ghost use Rattle.endian.specs.Parts.{written};
 ghost use Rattle.endian.specs.Numbers.{bytes_of};

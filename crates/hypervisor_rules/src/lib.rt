@@ -1,4 +1,6 @@
 // The rule of the hypervisor's domain, domain 0: each of its places is as at boot.
+#![tactic(auto)]
+
 ghost use Rattle.std.specs.Prelude.{◌≡◌, ◌+◌, ◌-◌, ◌<◌, ◌≤◌, true, length};
 ghost use Rattle.words.specs.Sizes.{object, start, stride, places};
 ghost use Rattle.interface.specs.Basics.{all_below};

@@ -2,6 +2,8 @@
 // domain, and forgotten there. A lookup answered with the nearest range where it should have found nothing, the revoke that followed it missed the test domain, and the
 // shutter opened beside a trainee. Here the census names every place that has the ports, a lookup beside them finds nothing, a REVOKE that could take nothing is refused, one
 // REVOKE empties all those places and spares what else was lent, and the test domain has no port of the shutter's left to lend on.
+#![tactic(auto)]
+
 mod spectrometer;
 mod steps;
 mod telling;

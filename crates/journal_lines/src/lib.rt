@@ -1,4 +1,6 @@
 // The lines that replaying a journal writes, as text in ASCII.
+#![tactic(auto)]
+
 ghost use Rattle.std.specs.Prelude.{◌≤◌, ◌≡◌, [], ◌∷◌, ◌++◌, length};
 ghost use Rattle.io.specs.Counts.{IsPrefixLen};
 ghost use Rattle.endian.specs.Parts.{written};

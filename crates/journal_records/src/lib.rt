@@ -1,4 +1,6 @@
 // A record of the journal: a kind byte, which is the hypercall's number, and a body of little-endian words.
+#![tactic(auto)]
+
 ghost use Rattle.std.specs.Prelude.{◌+◌, ◌*◌, ◌≤◌, ◌≡◌, length};
 ghost use Rattle.words.specs.Sizes.{block_words};
 ghost use Rattle.interface.specs.Basics.{listed, word};

@@ -1,4 +1,6 @@
 // The kernel's face: boot, the hypercalls, the census and the untyped part of a received message, on lent tables, blocks and lists of any length and content.
+#![tactic(auto)]
+
 ghost use Rattle.std.specs.Prelude.{◌≡◌, true, []};
 ghost use Rattle.interface.specs.Places.{tables, sized};
 ghost use Rattle.interface.specs.Message.{untyped_part};

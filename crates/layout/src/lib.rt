@@ -2,6 +2,8 @@
 //
 // Selector, place and object number are a one-number struct each, so that none is taken for another: their numbers are private to this crate, and its
 // conversions are the only way across. Each conversion says what its number is.
+#![tactic(auto)]
+
 ghost use Rattle.std.specs.Prelude.{◌≡◌, ◌&&◌, ◌+◌, ◌*◌, ◌%◌, ◌<◌, ◌≤◌, eqb, leb, ltb};
 ghost use Rattle.words.specs.Sizes.{domains, spaces, object, selectors, stride, places, place_words, records, record_words, place_of, domain_of, space_of, selector_of};
 ghost use Rattle.layout.specs.Numbers.{selected, placed, link_of, linked, numbered};

@@ -1,4 +1,6 @@
 // LOOKUP.
+#![tactic(auto)]
+
 ghost use Rattle.std.specs.Prelude.{◌≡◌, ◌&&◌, List, ℕ, ◌+◌, ◌^◌, ◌<◌, ◌≤◌, eqb};
 ghost use Rattle.words.specs.Sizes.{domains};
 ghost use Rattle.words.specs.Sizes.{places as placeCount};

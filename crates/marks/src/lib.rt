@@ -1,4 +1,6 @@
 // Marks: a bit for each place, by its number.
+#![tactic(auto)]
+
 ghost use Rattle.std.specs.Prelude.{◌≡◌, ℕ, ◌+◌, ◌^◌, ◌<◌, ◌≤◌, false, ◌++◌, length, drop};
 ghost use Rattle.std.specs.Int.Count.{ones};
 ghost use Rattle.words.specs.Sizes.{places};

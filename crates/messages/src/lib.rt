@@ -1,4 +1,6 @@
 // Messages of one typed item by name, each with the promise that it is that CALL, for programs that tell how the kernel is used: a range is lent, or taken from the hypervisor.
+#![tactic(auto)]
+
 ghost use Rattle.std.specs.Prelude.{◌≡◌};
 ghost use Rattle.interface.specs.Boot.{root_ec};
 ghost use Rattle.requests.specs.Requests.{Asked};

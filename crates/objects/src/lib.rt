@@ -1,4 +1,6 @@
 // The object table: kinds of objects and their permissions, words of records, storing them, and what is counted in it.
+#![tactic(auto)]
+
 ghost use Rattle.std.specs.Prelude.{◌≡◌, [], ◌<◌, ◌≤◌};
 ghost use Rattle.words.specs.Sizes.{records, record_words};
 ghost use Rattle.layout.specs.Numbers.{numbered};

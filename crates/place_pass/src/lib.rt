@@ -1,4 +1,6 @@
 // One pass over the places outside domain 0: a shorter test of each decides whether all places keep the rules.
+#![tactic(auto)]
+
 ghost use Rattle.std.specs.Prelude.{◌≡◌, ◌+◌, ◌-◌, ◌%◌, ◌<◌, ◌≤◌, true, ◌&&◌, leb, ltb, length};
 ghost use Rattle.words.specs.Sizes.{stride, places, records};
 ghost use Rattle.interface.specs.Basics.{all_below};

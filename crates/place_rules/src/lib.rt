@@ -1,4 +1,6 @@
 // The rules that a place keeps, each as it is stated, and whether places in a row are all 0.
+#![tactic(auto)]
+
 ghost use Rattle.std.specs.Prelude.{◌≡◌, ◌+◌, ◌<◌, ◌≤◌, ◌||◌, eqb, length};
 ghost use Rattle.words.specs.Sizes.{spaces, space_of, places};
 ghost use Rattle.interface.specs.Places.{nothing, object_table_words, place_table_words, live, cap_at, tables, view, places_in};

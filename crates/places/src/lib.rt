@@ -1,4 +1,6 @@
 // The place table: what a place holds, storing it, and delegating one place to another.
+#![tactic(auto)]
+
 ghost use Rattle.std.specs.Prelude.{◌≡◌, ◌<◌};
 ghost use Rattle.words.specs.Sizes.{places};
 ghost use Rattle.interface.specs.Basics.{put};

@@ -1,4 +1,6 @@
 // CALL.
+#![tactic(auto)]
+
 ghost use Rattle.std.specs.Prelude.{◌≡◌};
 ghost use Rattle.interface.specs.Places.{tables};
 ghost use Rattle.interface.specs.Verdicts.{Call};

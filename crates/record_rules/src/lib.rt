@@ -1,4 +1,6 @@
 // The rules that records keep.
+#![tactic(auto)]
+
 ghost use Rattle.std.specs.Prelude.{◌≡◌, ◌<◌, ◌≤◌, true, length};
 ghost use Rattle.words.specs.Sizes.{records, record_words};
 ghost use Rattle.interface.specs.Basics.{all_below};

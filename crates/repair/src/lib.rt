@@ -1,4 +1,6 @@
 // Repair of found tables: the places that keep the rules 11 and 12 are marked, then those whose chains break, on the table as it is found; and then these are emptied.
+#![tactic(auto)]
+
 ghost use Rattle.std.specs.Prelude.{◌≡◌, ◌<◌, true, length};
 ghost use Rattle.words.specs.Sizes.{stride, places};
 ghost use Rattle.interface.specs.Basics.{all_below};

@@ -1,4 +1,6 @@
 // Repair of found tables: what is proved of its definition. Each function promises one statement and does nothing.
+#![tactic(auto)]
+
 ghost use Rattle.repair_rules.specs.RepairFacts.{ChainsExactly, StaysExactly, EmptiesExactly, SoundAfter, RepairsOnce, RepairAnswers};
 ghost use Rattle.repair_rules.specs.RepairExamples.{RepairExamples};
 

@@ -1,4 +1,6 @@
 // Replays journals on the kernel, each from boot on, and writes their lines: those that the arguments name, one after the other, or the one on standard input.
+#![tactic(auto)]
+
 ghost use Rattle.std.specs.Prelude.{◌+◌, ◌*◌, ◌≤◌, ◌≡◌, true, length, take};
 ghost use Rattle.interface.specs.Places.{tables};
 ghost use Rattle.interface.specs.Damage.{sound};

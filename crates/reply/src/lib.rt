@@ -1,4 +1,6 @@
 // What is answered: the reply of a hypercall or a census, and where tables are damaged.
+#![tactic(auto)]
+
 ghost use Rattle.std.specs.Prelude.{◌≡◌};
 ghost use Rattle.reply.specs.Replies.{status_of, answer_of};
 

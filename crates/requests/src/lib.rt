@@ -1,4 +1,6 @@
 // The hypercalls by name that send no message, each with the promise that it is that call, for programs that tell how the kernel is used. The root makes all creations and the REVOKE.
+#![tactic(auto)]
+
 ghost use Rattle.std.specs.Prelude.{◌≤◌, ◌<◌, ◌^◌, ◌≡◌, true};
 ghost use Rattle.words.specs.Sizes.{greatest_order, selectors, spaces};
 ghost use Rattle.words.specs.Ranges.{aligned};

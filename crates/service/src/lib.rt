@@ -1,4 +1,6 @@
 // A hypercall on sound tables: its number is tested before its caller, the caller before the call's own checks, and the tables stay sound.
+#![tactic(auto)]
+
 ghost use Rattle.std.specs.Prelude.{◌≡◌, true};
 ghost use Rattle.interface.specs.Places.{tables};
 ghost use Rattle.interface.specs.Damage.{sound};

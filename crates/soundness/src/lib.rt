@@ -1,4 +1,6 @@
 // The damage test: whether tables are sound, in one pass over the places, and which rule is the first that they break.
+#![tactic(auto)]
+
 ghost use Rattle.std.specs.Prelude.{◌≡◌};
 ghost use Rattle.interface.specs.Damage.{sound, fault};
 

@@ -1,4 +1,6 @@
 // What is proved of the interface's definitions: each function promises one statement of interface/specs and does nothing, so that its proof is the statement's.
+#![tactic(auto)]
+
 ghost use Rattle.interface.specs.Consequences.{StaysSound, DamagedExactly, RefusedStays, HypervisorStays, BlocksStay, NothingIsNothing, AnswersFew, AddsNoPermission, RevokesExactly, NothingLost};
 ghost use Rattle.interface.specs.Refusals.{CallRefusedExactly, CreationsRefusedExactly, SmCtrlRefusedExactly, LookupRefusedExactly, RevokeRefusedExactly, CensusRefusedExactly, DispatchRefusedExactly, MalformedExactly};
 ghost use Rattle.interface.specs.Created.{CreatedExactly};

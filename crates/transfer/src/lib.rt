@@ -1,4 +1,6 @@
 // A message from block to block: the untyped words, and the typed items, each translated or delegated in its turn.
+#![tactic(auto)]
+
 ghost use Rattle.std.specs.Prelude.{◌<◌, ◌≤◌, ◌≡◌};
 ghost use Rattle.words.specs.Sizes.{domains};
 ghost use Rattle.descriptor.specs.declared.Match.TheVariants.{Both};

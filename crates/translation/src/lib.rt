@@ -1,4 +1,6 @@
 // Translating a typed item: the range of the receiver that the sender's places descend from.
+#![tactic(auto)]
+
 ghost use Rattle.std.specs.Prelude.{◌+◌, ◌^◌, ◌<◌, ◌≡◌, eqb};
 ghost use Rattle.words.specs.Sizes.{domains, places};
 ghost use Rattle.descriptor.specs.declared.Match.TheVariants.{Both};

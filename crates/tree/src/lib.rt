@@ -1,4 +1,6 @@
 // Revocation of permissions, and the census: each marks the descendants, then strips or lists the marked places.
+#![tactic(auto)]
+
 ghost use Rattle.std.specs.Prelude.{◌≡◌, ◌<◌};
 ghost use Rattle.words.specs.Sizes.{places};
 ghost use Rattle.interface.specs.Basics.{put};

@@ -1,4 +1,6 @@
 // A turn of a journal's replay, over buffers: what was left is moved to the front of the input buffer, and the whole records of what was read are played with their lines.
+#![tactic(auto)]
+
 ghost use Rattle.std.specs.Prelude.{◌-◌, ◌≤◌, ◌≡◌, true, length};
 ghost use Rattle.interface.specs.Places.{tables};
 ghost use Rattle.interface.specs.Damage.{sound};

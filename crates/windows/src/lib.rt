@@ -1,4 +1,6 @@
 // A typed item's range and its window: reading and matching them, the part of them around the hotspot, and the word of a range.
+#![tactic(auto)]
+
 ghost use Rattle.std.specs.Prelude.{◌+◌, ◌%◌, ◌^◌, ◌<◌, ◌≤◌, min, ◌≡◌};
 ghost use Rattle.words.specs.Ranges.{rounded};
 ghost use Rattle.descriptor.specs.Descriptors.{describe, reading, matched, Proper};

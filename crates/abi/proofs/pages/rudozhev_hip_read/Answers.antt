@@ -1,0 +1,24 @@
+-- The reading, packed; both counts are those of a page of at most 65,535 bytes.
+use native.Mathlib.Omega.{arith}
+use Rattle.hip_reader.proofs.ReadLaws.{refuses, accepts, short_page}
+use Rattle.abi.proofs.PagePackingLaws.{reads_refused, reads_accepted}
+use borrow.Author.Rules.{rules}
+use Rattle.abi.proofs.pages.rudozhev_hip_read.Goals as goal
+
+pub overflow_mul-result : goal.overflow_mul-result
+overflow_mul-result c = let bytes = c.args.page.now in
+    let page = accepts bytes _ _ c.read-found.ensures c.in-Accepted.is in
+    omega (arith, page, short_page bytes _ (λ i. (c.shared_slice_known-1.given i).fits) page)
+
+pub overflow_add-result : goal.overflow_add-result
+overflow_add-result c = let bytes = c.args.page.now in
+    let page = accepts bytes _ _ c.read-found.ensures c.in-Accepted.is in
+    omega (arith, page, short_page bytes _ (λ i. (c.shared_slice_known-1.given i).fits) page)
+
+pub returns-in-Refused : goal.returns-in-Refused
+returns-in-Refused c = let start = c.args in
+    reads_refused start.page.now start.fields.now _ _ _ (refuses start.page.now _ _ c.read-found.ensures c.in-Refused.is) c.number.ensures c.join.ensures
+
+pub returns-in-Accepted : goal.returns-in-Accepted
+returns-in-Accepted c = let start = c.args in
+    rw c.fields.ensures (reads_accepted start.page.now start.fields.now _ (accepts start.page.now _ _ c.read-found.ensures c.in-Accepted.is))

@@ -1,0 +1,7 @@
+-- The list is the census's, and the reply is packed.
+use Rattle.abi.proofs.PackingLaws.{counts}
+use borrow.Author.Rules.{rules}
+use Rattle.abi.proofs.rudozhev_census.Goals as goal
+
+pub returns : goal.returns
+returns c = counts c.census.ensures.0 c.pack.ensures

@@ -1,0 +1,10 @@
+-- The answer is that of the damage test.
+use mathlib.Core.Path.{sym, ◌∙◌}
+use borrow.Author.Rules.{rules}
+use Rattle.abi.proofs.rudozhev_sound.Goals as goal
+
+pub returns-then-is_sound : goal.returns-then-is_sound
+returns-then-is_sound c = rw (sym c.is_sound.ensures ∙ c.if-is_sound.true)
+
+pub returns : goal.returns
+returns c = rw (sym c.is_sound.ensures ∙ c.if-is_sound.false)

@@ -1,0 +1,19 @@
+-- What was found holds for the loop's place too. The measure is the depth, which falls on the way to a parent.
+use Prim.Native.Nat.{◌<◌}
+use mathlib.Core.Path.{◌≡◌, refl, sym, ◌∙◌}
+use Rattle.words.specs.Sizes.{places}
+use Rattle.interface.specs.Places.{cap_at}
+use Rattle.interface.specs.Effects.{below}
+use Rattle.interface.proofs.Basics.BoolLaws.{or_none_left}
+use Rattle.descent.specs.Walks.{Marking}
+use Rattle.descent.proofs.MarkLaws.{settled}
+use Rattle.descent.proofs.WalkLaws.{parent_small, walk_shorter, below_outside}
+use borrow.Author.Rules.{rules}
+use Rattle.descent.proofs.settle.Given as goal
+
+abbrev pub invariant-loop-above : goal.invariant-loop-above
+invariant-loop-above l =
+    Marking l.table l.first.0 l.size l.walked.0 l.known l.marked × (l.at.0 < places) × (l.found ≡ below (cap_at l.table) l.first.0 l.size l.at.0)
+
+abbrev pub decreases-loop-above : goal.decreases-loop-above
+decreases-loop-above l = (cap_at l.table l.at.0).depth

@@ -1,0 +1,6 @@
+-- Ten numbers of 32 bits at their places.
+use borrow.Author.Rules.{rules}
+use Rattle.hip_reader.proofs.header_at.Goals as goal
+
+pub returns : goal.returns
+returns c = cc

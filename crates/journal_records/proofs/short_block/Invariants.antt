@@ -1,0 +1,16 @@
+-- The block begins with the words that the loop has passed.
+use Prim.Native.Nat.{◌+◌, ◌-◌, ◌≤◌}
+use mathlib.Core.Path.{◌≡◌, refl}
+use native.Mathlib.Omega.{arith}
+use lib.ListN.{length, take, length-set}
+use Rattle.words.specs.Sizes.{block_words}
+use Rattle.interface.specs.Basics.{listed}
+use Rattle.interface.specs.Journal.{body_word}
+use Rattle.journal_records.proofs.BodyLaws.{listed_more, listed_all}
+use Rattle.journal_records.proofs.short_block.Given as goal
+
+abbrev pub invariant-loop-i : goal.invariant-loop-i
+invariant-loop-i l = (l.i ≤ block_words) × (length l.block ≡ block_words) × (take l.i l.block ≡ listed l.i (λ k. body_word l.body (l.from + k)))
+
+abbrev pub decreases-loop-i : goal.decreases-loop-i
+decreases-loop-i l = block_words - l.i

@@ -1,0 +1,8 @@
+-- The first block of a CALL begins after the portal selector.
+use borrow.Author.Rules.{rules}
+use Rattle.interface.specs.Journal.{recorded_call}
+use Rattle.journal_records.proofs.source.Goals as goal
+
+pub returns : goal.returns
+unfolding recorded_call
+returns c = c.block_from.ensures

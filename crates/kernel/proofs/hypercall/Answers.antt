@@ -1,0 +1,25 @@
+-- Sound tables are served, and damaged ones refused.
+use mathlib.Core.Path.{sym, ◌∙◌}
+use borrow.Author.Rules.{rules}
+use Rattle.interface.specs.Verdicts.{Call}
+use Rattle.interface.specs.Outcomes.{call_of}
+use Rattle.kernel.proofs.FaceLaws.{going_on, damaged_outcome}
+use Rattle.kernel.proofs.hypercall.Goals as goal
+
+-- the call that the arguments make
+abbrev call_by : tie.Start → Call
+call_by c =
+    let given = c.args in
+    call_of given.number given.caller given.first given.second given.third given.fourth given.fifth given.sixth given.source.now
+    given.target.now
+
+pub serve-requires : goal.serve-requires
+serve-requires c = sym c.is_sound.ensures ∙ c.if-is_sound.true
+
+pub returns-then-is_sound : goal.returns-then-is_sound
+returns-then-is_sound c = going_on _ _ _ c.serve.ensures.0
+
+pub returns : goal.returns
+returns c =
+    let by = call_by c.before.before.before.before.before.before.before.before in
+    going_on _ by _ (damaged_outcome _ _ by (sym c.is_sound.ensures ∙ c.if-is_sound.false))

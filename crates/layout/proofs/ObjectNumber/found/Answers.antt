@@ -1,0 +1,12 @@
+-- The test is the definition's.
+use Prim.Native.Nat.{◌≤◌, ◌<◌}
+use native.Mathlib.Omega.{arith}
+use Rattle.words.specs.Sizes.{records}
+use Rattle.layout.proofs.NumberLaws.{numbered_so, numbered_beyond}
+use Rattle.layout.proofs.ObjectNumber.found.Goals as goal
+
+pub returns-then-word-lt-RECORDS : goal.returns-then-word-lt-RECORDS
+returns-then-word-lt-RECORDS c = let inside : c.args.word < records = omega arith in rw numbered_so
+
+pub returns-else-word-lt-RECORDS : goal.returns-else-word-lt-RECORDS
+returns-else-word-lt-RECORDS c = let outside : records ≤ c.args.word = omega arith in rw numbered_beyond

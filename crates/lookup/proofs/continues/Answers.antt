@@ -1,0 +1,6 @@
+-- The sum of two words fits a word of twice the width.
+use borrow.Author.Rules.{rules}
+use Rattle.lookup.proofs.continues.Goals as goal
+
+pub returns : goal.returns
+returns c = rw c.is_live.ensures

@@ -1,0 +1,96 @@
+-- Nothing is found where nothing is held, and else the largest range around the base.
+use Prim.Native.Nat.{◌+◌, ◌%◌, ◌≤◌, ◌<◌}
+use mathlib.Core.Path.{◌≡◌, refl, sym, ◌∙◌}
+use native.Mathlib.Nat.{add-zero}
+use native.Mathlib.Omega.{arith}
+use lib.Pow.{pow_pos}
+use borrow.Author.Rules.{rules}
+use borrow.Author.Tests.{not-true, not-false}
+use Rattle.words.specs.Sizes.{object, selectors, greatest_order}
+use Rattle.words.specs.Sizes.{places as placeCount}
+use Rattle.words.specs.Ranges.{rounded}
+use Rattle.words.proofs.SizeLaws.{greatest_small}
+use Rattle.interface.specs.Places.{Cap, cap_at}
+use Rattle.lookup.proofs.AnswerLaws.{Base, nothing_found, base_small, space_ends, around_proper, range_found}
+use Rattle.lookup.proofs.found.Goals as goal
+
+-- the base, and what its place holds
+base_of : (c : tie.After-of) {cap : Cap} →
+    let given = c.before.before.before.before.before.before.args in
+    cap ≡ cap_at given.places.now (c.of.result.0 + c.before.before.number.result) →
+    Base given.places.now given.domain given.range c.of.result.0 c.before.before.number.result cap
+base_of c is_cap =
+    let numbered = c.before.before in
+    let spaced = numbered.before.before in
+    record {
+      proper = spaced.before.before.requires.2;
+      is_first = rw (spaced.space.ensures, c.before.wrapped.ensures, add-zero) at c.of.ensures;
+      is_selector = numbered.number.ensures ∙ rw add-zero at numbered.before.at.ensures.0;
+      is_cap = is_cap;
+    }
+
+is_base : (c : tie.After-load) →
+    let given = c.before.before.before.before.before.before.before.before.args in
+    Base given.places.now given.domain given.range c.before.before.of.result.0 c.before.before.before.before.number.result c.load.result
+is_base c = base_of c.before.before (rw c.before.after.ensures at c.load.ensures)
+
+-- the base's place is a place
+base_inside : (c : tie.After-of) → c.of.result.0 + c.before.before.number.result < placeCount
+base_inside c =
+    let base = base_of c refl in
+    omega (arith, base_small base, space_ends base c.before.before.before.before.before.before.requires.1)
+
+-- the greatest order is that of the base's space
+greatest_is : (c : tie.After-greatest-order) → c.greatest-order.result ≡ greatest_order c.before.before.before.before.before.before.before.before.before.before.before.args.range.space
+greatest_is c = rw c.before.before.before.before.before.before.before.before.before.space.ensures at c.greatest-order.ensures
+
+-- the lowest selector of the range
+low_is : (c : tie.After-wrapped2) →
+    let ordered = c.before.before in
+    c.wrapped2.result.0 ≡ rounded ordered.largest-order.result ordered.before.before.before.before.before.before.before.before.number.result % selectors object
+low_is c = rw c.before.round-down.ensures at c.wrapped2.ensures
+
+order_small : (c : tie.After-largest-order) →
+    c.largest-order.result ≤ greatest_order c.before.before.before.before.before.before.before.before.before.before.before.before.args.range.space
+order_small c = rw (greatest_is c.before) at c.largest-order.ensures.1
+
+pub at-requires : goal.at-requires
+at-requires c = (c.requires.2, pow_pos c.args.range.order)
+
+pub of-first-requires : goal.of-first-requires
+of-first-requires c =
+    let space = c.space-space in
+    (c.requires.1, rw space.ensures c.requires.2.space_small, rw c.wrapped.ensures (pow_pos (greatest_order space.result)))
+
+pub after-requires : goal.after-requires
+after-requires c = base_inside c
+
+pub load-cap-requires : goal.load-cap-requires
+load-cap-requires c = search (base_inside c.before, rules)
+
+pub returns-then-not-is_live : goal.returns-then-not-is_live
+returns-then-not-is_live c objects = c.word.ensures ∙
+    nothing_found (is_base c.before.before.before) (sym c.is_live.ensures ∙ not-true _ c.if-not-is_live.true) objects
+
+pub largest_order-order-requires : goal.largest_order-order-requires
+largest_order-order-requires c =
+    let base = is_base loaded in (
+      c.requires.0,
+      omega (arith, greatest_is c, greatest_small c.args.range.space),
+      rw (greatest_is c) (base_small base),
+      rw (greatest_is c) (space_ends base c.requires.1),
+    )
+
+pub round_down-requires : goal.round_down-requires
+round_down-requires c =
+    omega (arith, c.largest_order-order.ensures.1, greatest_is c.before, greatest_small c.args.range.space)
+
+pub of-requires : goal.of-requires
+of-requires c =
+    let mask_small = c.requires.3 _ (base_inside placed) in
+    around_proper (is_base loaded) (order_small ordered) (low_is c) c.space-space.ensures (rw (is_base loaded).is_cap mask_small)
+
+pub returns : goal.returns
+returns c =
+    range_found (is_base loaded) (order_small ordered) (low_is wrapped) (sym c.is_live.ensures ∙ not-false _ c.if-not-is_live.false)
+    (rw (greatest_is ordered.before) at c.largest_order-order.ensures.0) c.space-space.ensures (c.word-2.ensures ∙ c.of.ensures)

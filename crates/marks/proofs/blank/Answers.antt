@@ -1,0 +1,18 @@
+-- Words that are 0, since the table has its length.
+use Prim.Native.Nat.{◌-◌}
+use mathlib.Core.Path.{◌≡◌, refl}
+use native.Mathlib.Omega.{arith}
+use lib.ListN.{length}
+use Rattle.interface.specs.Places.{place_table_words}
+use Rattle.marks.specs.PlaceBits.{mark_words}
+use Rattle.marks.proofs.PlaceBitLaws.{blank_bit}
+use Rattle.marks.proofs.blank.Goals as goal
+
+pub overflow_sub-zero : goal.overflow_sub-zero
+overflow_sub-zero c = omega (arith, c.requires)
+
+pub overflow_cast-zero : goal.overflow_cast-zero
+overflow_cast-zero c = omega (arith, c.requires)
+
+pub returns : goal.returns
+returns c = let zero : length c.args.table.now - place_table_words ≡ 0 = omega (arith, c.requires) in (refl, rw zero (blank_bit mark_words))

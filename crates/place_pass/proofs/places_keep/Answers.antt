@@ -1,0 +1,66 @@
+-- The loop's invariant: the places before this group pass the shorter test. The measure is how many places of domains with a PD are left. The places after these decide by being blank.
+use Prim.Native.Nat.{◌+◌, ◌-◌, ◌*◌, ◌%◌, ◌≤◌}
+use mathlib.Core.Path.{◌≡◌, sym, ◌∙◌}
+use mathlib.Core.Bool.{true}
+use native.Mathlib.Omega.{arith}
+use Rattle.words.specs.Sizes.{stride, places}
+use Rattle.interface.specs.Basics.{all_below}
+use Rattle.interface.specs.Places.{view}
+use Rattle.interface.proofs.Basics.LoopLaws.{all_below_done, all_below_within, answered_yes}
+use Rattle.record_rules.proofs.PdLaws.{few_pds}
+use Rattle.place_pass.specs.PassKeeping.{quick_keeps, group}
+use Rattle.place_pass.proofs.QuickLaws.{quick_decides, quick_start, blank_decides}
+use Rattle.place_pass.proofs.places_keep.Goals as goal
+
+pub overflow_add-end : goal.overflow_add-end
+overflow_add-end c = omega (arith, few_pds c.requires.1.numbered)
+
+pub overflow_mul-end : goal.overflow_mul-end
+overflow_mul-end c = omega (arith, few_pds c.requires.1.numbered)
+
+pub loop-first-init : goal.loop-first-init
+loop-first-init c = (omega arith, omega arith, omega arith, quick_start _)
+
+pub group_keeps-requires : goal.group_keeps-requires
+group_keeps-requires c =
+    let loop = c.loop-first in (
+      record {
+        pds = c.args.pds;
+        places_long = c.requires.0;
+        kept = c.requires.1;
+        past_hypervisor = loop.invariant.0;
+        has_pd_lem = omega arith;
+        aligned = loop.invariant.1;
+        passed = loop.invariant.3;
+      },
+      omega (arith, few_pds c.requires.1.numbered),
+    )
+
+pub returns-then-not-group_keeps : goal.returns-then-not-group_keeps
+returns-then-not-group_keeps c =
+    let few = few_pds c.requires.1.numbered in
+    all_below_within _ (c.loop-first.first + group) places _ (omega arith) c.group_keeps.ensures c.if-not-group_keeps.true ∙
+    quick_decides _ c.requires.1 c.requires.2
+
+pub overflow_add-first : goal.overflow_add-first
+overflow_add-first c = omega (arith, few_pds c.requires.1.numbered)
+
+pub loop-first-smaller : goal.loop-first-smaller
+loop-first-smaller c = omega arith
+
+pub loop-first-preserved : goal.loop-first-preserved
+loop-first-preserved c = (omega arith, omega arith, omega arith, answered_yes _ _ c.group_keeps.ensures c.if-not-group_keeps.false)
+
+pub rest_is_blank-requires : goal.rest_is_blank-requires
+rest_is_blank-requires c =
+    let few = few_pds c.requires.1.numbered in
+    (c.requires.0, omega arith, omega arith)
+
+pub returns : goal.returns
+returns c =
+    let loop = c.loop-first in
+    let few = few_pds c.requires.1.numbered in
+    let end = stride * (c.args.pds + 1) in
+    blank_decides _ c.requires.1 end _ (omega arith) (omega arith) (omega arith)
+    (sym (all_below_done _ end loop.first (omega arith) (omega arith) loop.invariant.3)) c.rest_is_blank.ensures ∙
+    quick_decides _ c.requires.1 c.requires.2

@@ -1,0 +1,6 @@
+-- The tests are the definition's.
+use borrow.Author.Rules.{rules}
+use Rattle.place_rules.proofs.null_keeps.Goals as goal
+
+pub returns : goal.returns
+returns c = rw (c.is_same.ensures, c.without_parent.ensures)

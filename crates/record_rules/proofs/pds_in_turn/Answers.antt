@@ -1,0 +1,56 @@
+-- The loop's invariant: the count is that of the PDs before the record, and each of these keeps the rule. The measure is how many used records are left.
+use Prim.Native.Nat.{◌-◌, ◌≤◌}
+use mathlib.Core.Path.{◌≡◌, refl, sym, ◌∙◌}
+use mathlib.Core.Logic.{⊎_elim}
+use mathlib.Core.Bool.{true}
+use native.Mathlib.Omega.{arith}
+use borrow.Author.Rules.{rules}
+use Rattle.words.specs.Sizes.{records}
+use Rattle.interface.specs.Basics.{all_below}
+use Rattle.interface.specs.Damage.{pds_below, pd_rule}
+use Rattle.interface.proofs.Basics.LoopLaws.{all_below_none, all_below_more, all_below_done, all_below_broken}
+use Rattle.objects.proofs.CountingLaws.{no_pds, pds_more, pds_same}
+use Rattle.record_rules.specs.RecordKeeping.{records_in}
+use Rattle.record_rules.proofs.PdLaws.{pds_small, pds_end, out_of_turn}
+use Rattle.record_rules.proofs.RecordTests.{pd_not}
+use Rattle.record_rules.proofs.RestLaws.{rest_out, rest_in}
+use Rattle.record_rules.proofs.pds_in_turn.Goals as goal
+
+pub returns-then-not-rest_is_clear : goal.returns-then-not-rest_is_clear
+returns-then-not-rest_is_clear c = rest_out _ _ _ c.rest_is_clear.ensures c.used_records-used.ensures c.if-not-rest_is_clear.true
+
+pub loop-at-init : goal.loop-at-init
+loop-at-init c = search (no_pds, all_below_none, rules)
+
+pub returns-then-not-pd_keeps : goal.returns-then-not-pd_keeps
+returns-then-not-pd_keeps c =
+    let used = c.used_records-used in
+    out_of_turn _ (sym (all_below_broken _ records _ _ (omega (arith, used.ensures.few)) c.pd_keeps.ensures c.if-not-pd_keeps.true))
+
+pub overflow_add-before : goal.overflow_add-before
+overflow_add-before c =
+    let s = records_in c.args.objects.now in
+    omega (arith, pds_small s c.loop-at.at)
+
+pub loop-at-preserved : goal.loop-at-preserved
+loop-at-preserved c =
+    let kind = c.kind_of.ensures in
+    let loop = c.loop-at in
+    let s = records_in c.args.objects.now in
+    ⊎_elim
+    (λ w. (
+      omega arith,
+      w.3 ∙ pds_more s loop.at _ _ kind loop.invariant.1 w.0.taken,
+      all_below_more _ _ _ loop.invariant.2 w.1.ensures w.2.left,
+    ))
+    (λ w. (
+      omega arith,
+      w.1 ∙ pds_same s loop.at _ _ kind loop.invariant.1 w.0.left,
+      all_below_more _ _ true loop.invariant.2 (pd_not s loop.at _ kind w.0.left) refl,
+    )) c.if-kind_of-eq-PD.branch
+
+pub returns : goal.returns
+returns c =
+    let loop = c.loop-at in
+    rest_in _ _ _ c.rest_is_clear.ensures c.used_records-used.ensures _ c.if-not-rest_is_clear.false
+    (pds_end _ _ loop.at _ (omega arith) (omega arith) loop.invariant.1) (sym (all_below_done _ _ loop.at (omega arith) (omega arith) loop.invariant.2))

@@ -1,0 +1,26 @@
+-- The first free record decides all that follow. The loop's invariant: each record passed keeps the rules. The measure is how many records are left.
+use Prim.Native.Nat.{◌-◌, ◌≤◌}
+use mathlib.Core.Path.{◌≡◌}
+use mathlib.Core.Bool.{true}
+use borrow.Author.Rules.{rules}
+use Rattle.words.specs.Sizes.{records}
+use Rattle.interface.specs.Basics.{all_below}
+use Rattle.interface.proofs.Basics.LoopLaws.{all_below_none, all_below_more, all_below_done, all_below_broken}
+use Rattle.record_rules.specs.RecordKeeping.{records_in, record_keeps}
+use Rattle.record_rules.proofs.RestLaws.{free_decides}
+use Rattle.record_rules.proofs.records_keep.Goals as goal
+
+pub loop-at-init : goal.loop-at-init
+loop-at-init c = search (all_below_none, rules)
+
+pub returns-then-kind_of-eq-FREE : goal.returns-then-kind_of-eq-FREE
+returns-then-kind_of-eq-FREE c = search (free_decides, rules)
+
+pub returns-then-not-record_keeps : goal.returns-then-not-record_keeps
+returns-then-not-record_keeps c = search (all_below_broken, rules)
+
+pub loop-at-preserved : goal.loop-at-preserved
+loop-at-preserved c = search (all_below_more, rules)
+
+pub returns : goal.returns
+returns c = search (all_below_done, rules)

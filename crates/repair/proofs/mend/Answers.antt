@@ -1,0 +1,8 @@
+-- What goes is marked on the table as it is found, and then emptied.
+use Rattle.repair.proofs.MendLaws.{mended}
+use borrow.Author.Rules.{rules}
+use Rattle.repair.proofs.mend.Goals as goal
+
+pub returns : goal.returns
+returns c =
+    mended _ _ _ _ _ _ c.mark_links.ensures c.mark_lost-count.ensures c.empty_marked.ensures

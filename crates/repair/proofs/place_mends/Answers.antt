@@ -1,0 +1,12 @@
+-- A live place is held against boot's, and of a null one boot's is asked whether it was null.
+use Rattle.repair.proofs.MendLaws.{mends_live, mends_null}
+use borrow.Author.Rules.{rules}
+use Rattle.repair.proofs.place_mends.Goals as goal
+
+pub returns-then-is_live : goal.returns-then-is_live
+returns-then-is_live c =
+    mends_live _ _ _ _ c.load-cap.ensures c.boot_cap-fixed.ensures c.is_live.ensures c.if-is_live.true c.is_same.ensures
+
+pub returns : goal.returns
+returns c =
+    mends_null _ _ _ _ c.load-cap.ensures c.boot_cap-fixed.ensures c.is_live.ensures c.if-is_live.false c.is_live-2.ensures

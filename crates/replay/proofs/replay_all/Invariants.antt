@@ -1,0 +1,24 @@
+-- The positions lie in the buffers after each turn, and the turns taken and those that are left add up. The measure is the number of turns that are left.
+use Prim.Native.Nat.{ℕ, ◌+◌, ◌-◌, ◌^◌}
+use mathlib.Core.Path.{◌≡◌, refl}
+use mathlib.Core.Logic.{inl, inr}
+use mathlib.Core.Bool.{true}
+use native.Mathlib.Omega.{arith}
+use borrow.Author.Rules.{rules}
+use borrow.Author.Tests.{not-true, not-false}
+use lib.ListN.{length}
+use Rattle.interface.specs.Places.{tables}
+use Rattle.interface.specs.Damage.{sound}
+use Rattle.turns.specs.Buffers.{Inside, Standing, begun, Turns}
+use Rattle.replay.proofs.BufferLaws.{turns_none, turns_more}
+use Rattle.replay.proofs.replay_all.Given as goal
+
+abbrev pub invariant-loop-turns : goal.invariant-loop-turns
+invariant-loop-turns l =
+    Inside l.progress l.input l.out × (length l.places ≡ length l.initial.places) × (length l.objects ≡ length l.initial.objects) × (length l.input ≡ length l.initial.input) ×
+    (length l.out ≡ length l.initial.out) × (sound (tables l.places l.objects) ≡ true) ×
+    Counted l.turns (record { l.progress = begun l.waiting; tables = tables l.initial.places l.initial.objects; l.input = l.initial.input; l.out = l.initial.out })
+    (record { l.progress = l.progress; tables = tables l.places l.objects; l.input = l.input; l.out = l.out })
+
+abbrev pub decreases-loop-turns : goal.decreases-loop-turns
+decreases-loop-turns l = l.turns

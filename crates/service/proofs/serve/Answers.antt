@@ -1,0 +1,25 @@
+-- Who is not admitted is refused, and who is gets what the rule says.
+use mathlib.Core.Path.{sym, ◌∙◌}
+use borrow.Author.Rules.{rules}
+use Rattle.interface.specs.Verdicts.{Call}
+use Rattle.service.specs.Serving.{call_with}
+use Rattle.service.proofs.AdmissionLaws.{served, not_admitted, admitted_caller, admitted_ec}
+use Rattle.service.proofs.serve.Goals as goal
+
+-- the call that the arguments make
+abbrev call_by : tie.Start → Call
+call_by c = let given = c.args in call_with given.number given.caller given.words given.source.now given.target.now
+
+pub dispatch-requires : goal.dispatch-requires
+dispatch-requires c =
+    admitted_ec _ _ _ _ c.requires _ (sym c.admit-admitted.ensures ∙ c.in-Ec.is)
+
+pub returns-in-Refused : goal.returns-in-Refused
+returns-in-Refused c =
+    let by = call_by start in
+    served _ by _ c.requires (not_admitted _ _ c.requires by _ (sym c.admit-admitted.ensures ∙ c.in-Refused.is))
+
+pub returns-in-Ec : goal.returns-in-Ec
+returns-in-Ec c =
+    let admitted = sym c.admit-admitted.ensures ∙ c.in-Ec.is in
+    served _ _ _ (search rules) (rw (admitted_caller _ _ _ _ _ admitted) at c.dispatch.ensures)

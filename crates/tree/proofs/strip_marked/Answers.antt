@@ -1,0 +1,36 @@
+-- The places below the loop's number, which is that of a marked place or past the last, are as stripping leaves them, and the others as they were.
+use Prim.Native.Nat.{◌-◌, ◌<◌, ◌≤◌}
+use mathlib.Core.Path.{◌≡◌, sym, ◌∙◌}
+use mathlib.Core.Bool.{true}
+use native.Mathlib.Omega.{arith}
+use Rattle.words.specs.Sizes.{places}
+use Rattle.interface.specs.Places.{cap_table}
+use Rattle.interface.specs.Effects.{stripped}
+use Rattle.marks.specs.PlaceBits.{bit_at}
+use Rattle.tree.proofs.MarkedLaws.{left_below, left_none, left_sized, left_more, left_all}
+use borrow.Author.Rules.{rules}
+use Rattle.tree.proofs.strip_marked.Goals as goal
+
+pub loop-number-init : goal.loop-number-init
+loop-number-init c =
+    let found = c.next_marked-number.ensures in (found.ends, left_none _ _ _ c.requires found, found.marked)
+
+pub strip-requires : goal.strip-requires
+strip-requires c =
+    (left_sized _ _ _ _ c.loop-number.invariant.1, omega (arith, c.counted.ensures))
+
+pub loop-number-smaller : goal.loop-number-smaller
+loop-number-smaller c = let found = c.next_marked-number-in-loop-number.ensures in omega (arith, found.later, found.ends)
+
+pub loop-number-preserved : goal.loop-number-preserved
+loop-number-preserved c =
+    let found = c.next_marked-number-in-loop-number.ensures in
+    (found.ends, left_more _ _ _ c.loop-number.invariant.1 (omega arith) (c.loop-number.invariant.2 (omega arith)) c.counted.ensures c.strip.ensures found, found.marked)
+
+pub shape_of-table : goal.shape_of-table
+shape_of-table c =
+    left_sized _ _ _ _ c.loop-number.invariant.1 ∙ sym c.requires
+
+pub returns : goal.returns
+returns c =
+    left_all _ _ _ _ (omega (arith, c.loop-number.invariant.0)) c.loop-number.invariant.1

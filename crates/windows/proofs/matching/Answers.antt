@@ -1,0 +1,6 @@
+-- The item is read, and matched.
+use borrow.Author.Rules.{rules}
+use Rattle.windows.proofs.matching.Goals as goal
+
+pub returns : goal.returns
+returns c = rw (c.matching.ensures, c.read.ensures)

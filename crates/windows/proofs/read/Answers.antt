@@ -1,0 +1,7 @@
+-- A word is read as it was kept.
+use borrow.Author.Rules.{rules}
+use Rattle.descriptor.proofs.DescriptorLaws.{reading_kept}
+use Rattle.windows.proofs.read.Goals as goal
+
+pub returns : goal.returns
+returns c = rw (c.read.ensures, c.from_word.ensures) (reading_kept c.args.word)
