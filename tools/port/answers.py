@@ -20,7 +20,7 @@ def norm(name):
 def items_of(text):
     """The items at the left margin, each with the comments above it."""
     parts, held = [], ""
-    for block in re.split(r"(?m)^(?=\S)", text):
+    for block in re.split(r"(?m)^(?=[^\s)}\]])", text):
         if not block.strip():
             continue
         if block.startswith("--"):
@@ -186,7 +186,7 @@ class Function:
             body = clause[m.end():]
             for p, w in zip(params, want):
                 if p != "_":
-                    body = re.sub(r"(?<![^\s(){};,@\[\]])(?<!\.)" + re.escape(p) + r"(?![^\s(){}.;,@\[\]])", lambda _: w.replace("l.", "\0."), body)
+                    body = re.sub(r"(?<![^\s(){};,@\[\]])(?<!\.)" + re.escape(p) + r"(?![^\s(){}.;,@\[\]])(?! [=:] )", lambda _: w.replace("l.", "\0."), body)
             body = body.replace("\0.", "l.")
             out_i.append(comment + f"abbrev pub {kind}-{new} : goal.{kind}-{new}\n{kind}-{new} l ={body.rstrip()}\n\n")
         for new, comment, middle, clauses, name in answers:
@@ -196,6 +196,8 @@ class Function:
             text = text.replace(name, new, 1) if len(clauses) == 1 else re.sub(r"(?m)^" + re.escape(name) + r"(?=\s)", new, text)
             text = re.sub(r"^(" + re.escape(new) + r" c) κs(?= )", r"\1", text)
             text = self.answer(text)
+            text = re.sub(r"(\bc\.(?:if|loop|in)[\w.-]*?)\.taken\b", r"\1.true", text)
+            text = re.sub(r"(\bc\.(?:if|loop|in)[\w.-]*?)\.left\b", r"\1.false", text)
             out_a.append(comment + f"pub {new} : goal.{new}\n" + middle + text.rstrip() + "\n\n")
         here = f"Rattle.{self.crate}.proofs.{self.folder.replace('/', '.')}"
         files = {}

@@ -8,8 +8,6 @@ use Rattle.descriptor.proofs.DescriptorLaws.{proper_order, proper_end}
 use Rattle.delegation.proofs.DelegateLaws.{Going, going_begins, going_filled, going_unfilled, going_ends}
 use Rattle.delegation.proofs.delegate.Goals as goal
 
-)
-
 pub offset-item_offset-requires : goal.offset-item_offset-requires
 offset-item_offset-requires c = omega (arith, proper_order c.requires.3.item_proper)
 
@@ -38,6 +36,7 @@ give_at-requires c = let g = c.loop-i.invariant in (
   g.matched,
   omega arith,
   omega arith,
+)
 
 pub overflow_add-count : goal.overflow_add-count
 overflow_add-count c = omega arith

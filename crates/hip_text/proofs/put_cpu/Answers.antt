@@ -4,8 +4,6 @@ use borrow.Author.Rules.{rules}
 use Rattle.hip_text.proofs.LineLaws.{wrote_cpu}
 use Rattle.hip_text.proofs.put_cpu.Goals as goal
 
-)
-
 pub put-requires : goal.put-requires
 put-requires c = omega (
   arith,
@@ -20,6 +18,7 @@ put-requires c = omega (
   c.put_column-core_at.auto.0,
   c.put_column-package_at.ensures.1,
   c.put_column-package_at.auto.0,
+)
 
 pub shape_of-out : goal.shape_of-out
 shape_of-out c = omega (arith, c.put.auto.0, c.put_column-end.auto.0, c.put_column-flags_at.auto.0, c.put_column-thread_at.auto.0, c.put_column-core_at.auto.0, c.put_column-package_at.auto.0)

@@ -7,8 +7,6 @@ use Rattle.hypervisor_rules.proofs.BootStretches.{memory_stretch, io_stretch, in
 use Rattle.hypervisor_rules.proofs.BootStretches.{rest_decides}
 use Rattle.hypervisor_rules.proofs.hypervisor_keeps.Goals as goal
 
-)
-
 pub stretch_keeps-requires : goal.stretch_keeps-requires
 stretch_keeps-requires c = (c.requires, memory_stretch, all_below_none _)
 
@@ -32,6 +30,7 @@ stretch_keeps-requires-3 c = (
   c.requires,
   interrupt_stretch,
   answered_yes _ _ c.idle_keep.ensures c.if-not-idle_keep.false,
+)
 
 pub returns-then-not-stretch_keeps-3 : goal.returns-then-not-stretch_keeps-3
 returns-then-not-stretch_keeps-3 c = all_below_within _ (start object + root_pd) stride _ (omega arith) c.stretch_keeps-3.ensures c.if-not-stretch_keeps-3.true

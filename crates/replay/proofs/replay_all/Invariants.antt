@@ -17,8 +17,8 @@ abbrev pub invariant-loop-turns : goal.invariant-loop-turns
 invariant-loop-turns l =
     Inside l.progress l.input l.out × (length l.places ≡ length l.initial.places) × (length l.objects ≡ length l.initial.objects) × (length l.input ≡ length l.initial.input) ×
     (length l.out ≡ length l.initial.out) × (sound (tables l.places l.objects) ≡ true) ×
-    Counted l.turns (record { l.progress = begun l.waiting; tables = tables l.initial.places l.initial.objects; l.input = l.initial.input; l.out = l.initial.out })
-    (record { l.progress = l.progress; tables = tables l.places l.objects; l.input = l.input; l.out = l.out })
+    Counted l.turns (record { progress = begun l.waiting; tables = tables l.initial.places l.initial.objects; input = l.initial.input; out = l.initial.out })
+    (record { progress = l.progress; tables = tables l.places l.objects; input = l.input; out = l.out })
 
 abbrev pub decreases-loop-turns : goal.decreases-loop-turns
 decreases-loop-turns l = l.turns

@@ -18,8 +18,6 @@ is_reading c = sym (rw (c.before.from-word.ensures, reading_kept) at c.read.ensu
 is_proper : (c : tie.After-range) → Proper c.range.given.0.0
 is_proper c = good_proper _ _ (is_reading c.before.before ∙ c.range.given.1)
 
-)
-
 -- the range's places and mask, as the code finds them
 is_aimed : (c : tie.After-mask) →
     let given = c.before.before.before.before.before.before.before in
@@ -47,6 +45,7 @@ of-first-requires c = (
   c.domain-domain.ensures.1,
   omega (arith, c.space-space.ensures, (is_proper c.before.before.before.before.before.before.before).space_small),
   rw c.space-space.ensures c.at.ensures.1,
+)
 
 pub size-size-requires : goal.size-size-requires
 size-size-requires c = omega (arith, c.order.ensures, proper_order (is_proper c.before.before.before.before.before.before.before.before.before))

@@ -12,8 +12,6 @@ use Rattle.service.proofs.admit.Goals as goal
 has_rule_lem : (c : tie.Else1) → is_built c.before.before.before.before.args.number ≡ true
 has_rule_lem c = sym c.before.is_built_lem.ensures ∙ not-false _ c.if1.false
 
-)
-
 pub returns-then-not-is_built : goal.returns-then-not-is_built
 returns-then-not-is_built c = sym (admission_not_built _ _ _ _ (sym c.is_built.ensures ∙ not-true _ c.if-not-is_built.true))
 
@@ -25,6 +23,7 @@ load-requires c = (
   search (objects_lengths, rules),
   numbered_small _ _ (sym c.found.ensures ∙ c.in-Numbered.is),
   omega arith,
+)
 
 pub returns-then-load-ne-EC : goal.returns-then-load-ne-EC
 returns-then-load-ne-EC c =

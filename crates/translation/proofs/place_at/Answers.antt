@@ -10,8 +10,6 @@ use Rattle.translation.proofs.place_at.Goals as goal
 at_small : (c : tie.After-at) → c.at.result.0 < selectors c.before.space.result
 at_small c = rw c.before.space.ensures c.at.ensures.1
 
-)
-
 pub of-requires : goal.of-requires
 of-requires c = search (at_small c, rules)
 
@@ -19,3 +17,4 @@ pub returns : goal.returns
 returns c = let small : c.space.result < spaces = omega arith in (
   rw (c.space.ensures, c.at.ensures.0) at c.of.ensures,
   made_small _ _ _ _ c.requires.0 small (at_small c.before) c.of.ensures,
+)

@@ -5,10 +5,6 @@ use Rattle.playback.proofs.PlayingLaws.{plays_start}
 use borrow.Author.Rules.{rules}
 use Rattle.turns.proofs.play.Goals as goal
 
-)
-
-)
-
 pub returns-then-done-input : goal.returns-then-done-input
 returns-then-done-input c = (
   search rules,
@@ -24,6 +20,7 @@ returns-then-done-input c = (
     },
     search rules,
   ),
+)
 
 pub returns : goal.returns
 returns c = let played = c.play_records-played.ensures in (
@@ -40,3 +37,4 @@ returns c = let played = c.play_records-played.ensures in (
     },
     played.1.1,
   ),
+)

@@ -2,8 +2,6 @@
 use Rattle.hip_format.proofs.JudgeLaws as laws
 use Rattle.hip_format.proofs.theorems.refused_exactly.Goals as goal
 
-}
-
 pub returns : goal.returns
 returns c = record {
   short = laws.refused_short;
@@ -14,3 +12,4 @@ returns c = record {
   bad_type = laws.refused_type;
   good = laws.accepted_exactly;
   odd = laws.refused_odd;
+}

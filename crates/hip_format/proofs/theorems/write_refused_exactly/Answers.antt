@@ -2,8 +2,6 @@
 use Rattle.hip_format.proofs.WriteLaws as laws
 use Rattle.hip_format.proofs.theorems.write_refused_exactly.Goals as goal
 
-}
-
 pub returns : goal.returns
 returns c = record {
   bad_type = laws.refused_type;
@@ -12,3 +10,4 @@ returns c = record {
   stays = laws.buffer_stays;
   good = laws.written_good;
   long = laws.length_whole;
+}

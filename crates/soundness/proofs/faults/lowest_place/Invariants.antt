@@ -12,7 +12,7 @@ use Rattle.soundness.proofs.LowestLaws.{lowest_first, lowest_none}
 use Rattle.soundness.proofs.faults.lowest_place.Given as goal
 
 abbrev pub invariant-loop-at : goal.invariant-loop-at
-invariant-loop-at l = (l.at ≤ places) × (all_below l.at ((rule_of l.rule).place_keeps_lem (shown (record { places = l.table; l.objects = l.objects }))) ≡ true)
+invariant-loop-at l = (l.at ≤ places) × (all_below l.at ((rule_of l.rule).place_keeps_lem (shown (record { places = l.table; objects = l.objects }))) ≡ true)
 
 abbrev pub decreases-loop-at : goal.decreases-loop-at
 decreases-loop-at l = places - l.at
