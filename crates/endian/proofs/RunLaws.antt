@@ -60,7 +60,10 @@ module _ {A : Type 0} where
       let longer : length (front ++ bytes one) ≡ at + size = length-append front (bytes one) ∙ (rw (place, same one)) in
       let others : spaced (what (front ++ (bytes one ++ later))) (at + size) size (length list) ≡ list =
       rw again (read_each Holding bytes what size same back list (front ++ bytes one) rest (at + size) longer each.1) in
-      rw (shape, back front later at one place each.0, others)
+      let whole = front ++ ((bytes one ++ bytes_of_each bytes list) ++ rest) in
+      let first : what whole at ≡ one = rw shape (back front later at one place each.0) in
+      let next : spaced (what whole) (at + size) size (length list) ≡ list = rw shape others in
+      rw (first, next)
 
   -- the bytes of what is read at places of a list are the part of it there
   pub write_each : (bytes : A → List ℕ) (what : ℕ → A) (list : List ℕ) (size : ℕ) →

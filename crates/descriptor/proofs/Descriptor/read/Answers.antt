@@ -14,17 +14,17 @@ use Rattle.descriptor.proofs.Descriptor.read.Goals as goal
 -- what a word that is not null is read as, by the answer of the call that tests it
 module _ (word : ℕ) (fits : word < 2 ^ 32) (some : word % 4 ≡ 0 → ⊥) (formed : Bool)
     (called : formed ≡ well_formed (word % 4 - 1) (order_field word) (word / 4096)) where
-  malformed : not formed ≡ true → Malformed ≡ reading word
+  malformed : formed ≡ false → Malformed ≡ reading word
   malformed h =
       sym (reading_malformed word (word % 4 - 1) (mask_field word) (order_field word) (word / 4096) (omega arith) refl refl (base_high word fits)
-      (sym called ∙ not-true formed h))
+      (sym called ∙ h))
 
-  good : (base : ℕ) → not formed ≡ false → wrapped (word % 4 - 1) (word / 4096) ≡ base →
+  good : (base : ℕ) → formed ≡ true → wrapped (word % 4 - 1) (word / 4096) ≡ base →
       Good (record { space = word % 4 - 1; base = base; order = order_field word; mask = mask_field word }) ≡ reading word
   good base h b =
       rw (← b)
       (sym (reading_good word (word % 4 - 1) (mask_field word) (order_field word) (word / 4096) (omega arith) refl refl (base_high word fits)
-      (sym called ∙ not-false formed h)))
+      (sym called ∙ h)))
 
 pub returns-then-word-eq0 : goal.returns-then-word-eq0
 returns-then-word-eq0 c = let none : type_field c.args.self.0 ≡ 0 = omega arith in rw reading_null

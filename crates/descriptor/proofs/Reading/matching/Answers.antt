@@ -22,14 +22,10 @@ returns-in-Malformed-window c = rw (c.in-Good.is, c.in-Malformed-window.is)
 
 pub returns-then-item-other : goal.returns-then-item-other
 returns-then-item-other c =
-    let item = c.self-1.given in
-    let window = c.window-1.given in
-    let same : item.0.0.space ≡ window.0.0.space = omega arith in
-    rw (item.1, window.1, matched_both item.0.0 window.0.0 same)
+    let same : c.in-Good.item.space ≡ c.in-Good-window.other.space = omega arith in
+    rw (c.in-Good.is, c.in-Good-window.is, matched_both c.in-Good.item c.in-Good-window.other same)
 
 pub returns-else-item-other : goal.returns-else-item-other
 returns-else-item-other c =
-    let item = c.self-1.given in
-    let window = c.window-1.given in
-    let apart : item.0.0.space ≡ window.0.0.space → ⊥ = omega arith in
-    rw (item.1, window.1, matched_apart item.0.0 window.0.0 apart)
+    let apart : c.in-Good.item.space ≡ c.in-Good-window.other.space → ⊥ = omega arith in
+    rw (c.in-Good.is, c.in-Good-window.is, matched_apart c.in-Good.item c.in-Good-window.other apart)
