@@ -40,8 +40,8 @@ abbrev pub NamesEc : State → ℕ → Type 0
 NamesEc s number = (number < records) × (kind_of s number ≡ EC)
 
 -- a cause behind a check: the check was passed, and the cause applies
-infixr 3 ◌and-then◌
-abbrev pub ◌and-then◌ : Type 0 → Type 0 → Type 0
+infixr 3 ◌and_then◌
+abbrev pub ◌and_then◌ : Type 0 → Type 0 → Type 0
 passed and_then cause = passed × cause
 
 -- a word that is no descriptor: its type is not 0, and its order is above 8, or its base is no multiple of 2 ^ order, or it is of memory or I/O and ends past 64,
