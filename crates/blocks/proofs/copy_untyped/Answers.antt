@@ -12,7 +12,7 @@ copy_words-requires c = let fits = counts_fit (word c.args.source.now 0) c.requi
     (omega arith, simp length-set (omega arith))
 
 pub shape_of-target : goal.shape_of-target
-shape_of-target c = c.copy_words.auto.1.0 ∙ simp length-set
+shape_of-target c = c.copy_words.auto.target ∙ simp length-set
 
 pub returns : goal.returns
 returns c = is_copied c.args.source.now c.args.target.now _ c.untyped_count.ensures c.copy_words.ensures

@@ -1,4 +1,6 @@
 -- The loop's invariant: each word of the places passed steps to that of the next. The measure is how many places are left.
+use mathlib.Core.Bool.{not}
+use mathlib.Core.Path.{ap}
 use Rattle.std.proofs.Common.{◌-◌, ◌≤◌, arith, rules}
 use Rattle.hypervisor_rules.proofs.StretchLaws.{Steps, steps_none, steps_more, steps_broken, steps_done}
 use Rattle.hypervisor_rules.proofs.rises.Goals as goal
@@ -16,7 +18,7 @@ pub returns-then-not-are_steps : goal.returns-then-not-are_steps
 returns-then-not-are_steps c =
     let given = c.args in
     steps_broken given.table.now given.first given.last c.loop-at.at _ (omega arith) (omega arith) c.are_steps.ensures
-    c.if-not-are_steps.true
+    (ap not c.if-not-are_steps.true)
 
 pub overflow_add-at-in-loop-at : goal.overflow_add-at-in-loop-at
 overflow_add-at-in-loop-at c = omega arith

@@ -1,6 +1,6 @@
 -- The census of damaged tables is refused, and that of sound ones is the tree's.
-use mathlib.Core.Path.{◌≡◌, sym, ◌∙◌}
-use mathlib.Core.Bool.{true}
+use mathlib.Core.Path.{◌≡◌, sym, ◌∙◌, ap}
+use mathlib.Core.Bool.{true, not}
 use borrow.Author.Tests.{not-true, not-false}
 use Rattle.interface.specs.Places.{tables}
 use Rattle.interface.specs.Damage.{sound}
@@ -15,7 +15,7 @@ undamaged : (c : tie.Else1) →
 undamaged c = sym c.before.is_sound.ensures ∙ not-false _ c.if1.false
 
 pub returns-then-not-is_sound : goal.returns-then-not-is_sound
-returns-then-not-is_sound c = showing_heirs _ _ _ _ (census_refused _ _ _ _ (sym c.is_sound.ensures ∙ not-true _ c.if-not-is_sound.true))
+returns-then-not-is_sound c = showing_heirs _ _ _ _ (census_refused _ _ _ _ (sym c.is_sound.ensures ∙ not-true _ (ap not c.if-not-is_sound.true)))
 
 pub census-requires : goal.census-requires
 census-requires c = let t = undamaged c.before in (census_lengths _ _ t, census_links _ _ t)

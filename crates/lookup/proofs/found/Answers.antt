@@ -1,6 +1,7 @@
 -- Nothing is found where nothing is held, and else the largest range around the base.
+use mathlib.Core.Bool.{not}
 use Prim.Native.Nat.{◌+◌, ◌%◌, ◌≤◌, ◌<◌}
-use mathlib.Core.Path.{◌≡◌, refl, sym, ◌∙◌}
+use mathlib.Core.Path.{◌≡◌, refl, sym, ◌∙◌, ap}
 use native.Mathlib.Nat.{add-zero}
 use native.Mathlib.Omega.{arith}
 use lib.Pow.{pow_pos}
@@ -70,7 +71,7 @@ load-cap-requires c = search (base_inside c.before, rules)
 
 pub returns-then-not-is_live : goal.returns-then-not-is_live
 returns-then-not-is_live c objects = c.word.ensures ∙
-    nothing_found (is_base c.before.before.before) (sym c.is_live.ensures ∙ not-true _ c.if-not-is_live.true) objects
+    nothing_found (is_base c.before.before.before) (sym c.is_live.ensures ∙ not-true _ (ap not c.if-not-is_live.true)) objects
 
 pub largest_order-order-requires : goal.largest_order-order-requires
 largest_order-order-requires c =
@@ -92,5 +93,5 @@ of-requires c =
 
 pub returns : goal.returns
 returns c =
-    range_found (is_base loaded) (order_small ordered) (low_is wrapped) (sym c.is_live.ensures ∙ not-false _ c.if-not-is_live.false)
+    range_found (is_base loaded) (order_small ordered) (low_is wrapped) (sym c.is_live.ensures ∙ not-false _ (ap not c.if-not-is_live.false))
     (rw (greatest_is ordered.before) at c.largest_order-order.ensures.0) c.space-space.ensures (c.word-2.ensures ∙ c.of.ensures)

@@ -1,7 +1,7 @@
 -- Each place before the loop's offset continues the range.
 use Prim.Native.Nat.{◌+◌, ◌-◌, ◌≤◌, ◌<◌}
 use mathlib.Core.Path.{◌≡◌, refl, sym, ap, ◌∙◌}
-use mathlib.Core.Bool.{true}
+use mathlib.Core.Bool.{true, not}
 use native.Mathlib.Omega.{arith}
 use lib.Pow.{pow_pos}
 use borrow.Author.Rules.{rules}
@@ -68,11 +68,11 @@ load-cap-requires c = search (in_range c.before, rules)
 pub returns-then-not-continues : goal.returns-then-not-continues
 returns-then-not-continues c =
     breaks (around test.before.before) c.loop-offset-test.true (rw c.after-in-loop-offset.ensures at c.load-cap.ensures)
-    (sym c.continues.ensures ∙ not-true _ c.if-not-continues.true)
+    (sym c.continues.ensures ∙ not-true _ (ap not c.if-not-continues.true))
 
 pub loop-offset-preserved : goal.loop-offset-preserved
 loop-offset-preserved c =
-    let continues = sym c.continues.ensures ∙ not-false _ c.if-not-continues.false in
+    let continues = sym c.continues.ensures ∙ not-false _ (ap not c.if-not-continues.false) in
     (omega arith, one_more (around loop.before) _ (rw c.after-in-loop-offset.ensures at c.load-cap.ensures) continues c.loop-offset.invariant.1)
 
 pub returns : goal.returns

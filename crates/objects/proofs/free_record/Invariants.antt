@@ -20,7 +20,7 @@ use Rattle.objects.specs.Records.{records_in}
 use Rattle.objects.proofs.free_record.Given as goal
 
 abbrev pub invariant-loop-number : goal.invariant-loop-number
-invariant-loop-number l = (l.number ≤ records) × (lowest l.number (is_free l.table) ≡ l.number)
+invariant-loop-number l = (l.number ≤ records) × (lowest l.number (λ (r : ℕ). eqb (object_at l.table r kind_word) free) ≡ l.number)
 
 abbrev pub decreases-loop-number : goal.decreases-loop-number
 decreases-loop-number l = records - l.number

@@ -1,7 +1,7 @@
 -- The loop's invariant: the places before this group pass the shorter test. The measure is how many places of domains with a PD are left. The places after these decide by being blank.
 use Prim.Native.Nat.{◌+◌, ◌-◌, ◌*◌, ◌%◌, ◌≤◌}
-use mathlib.Core.Path.{◌≡◌, sym, ◌∙◌}
-use mathlib.Core.Bool.{true}
+use mathlib.Core.Path.{◌≡◌, sym, ◌∙◌, ap}
+use mathlib.Core.Bool.{true, not}
 use native.Mathlib.Omega.{arith}
 use Rattle.words.specs.Sizes.{stride, places}
 use Rattle.interface.specs.Basics.{all_below}
@@ -39,7 +39,7 @@ group_keeps-requires c =
 pub returns-then-not-group_keeps : goal.returns-then-not-group_keeps
 returns-then-not-group_keeps c =
     let few = few_pds c.requires.1.numbered in
-    all_below_within _ (c.loop-first.first + group) places _ (omega arith) c.group_keeps.ensures c.if-not-group_keeps.true ∙
+    all_below_within _ (c.loop-first.first + group) places _ (omega arith) c.group_keeps.ensures (ap not c.if-not-group_keeps.true) ∙
     quick_decides _ c.requires.1 c.requires.2
 
 pub overflow_add-first : goal.overflow_add-first
@@ -49,7 +49,7 @@ pub loop-first-smaller : goal.loop-first-smaller
 loop-first-smaller c = omega arith
 
 pub loop-first-preserved : goal.loop-first-preserved
-loop-first-preserved c = (omega arith, omega arith, omega arith, answered_yes _ _ c.group_keeps.ensures c.if-not-group_keeps.false)
+loop-first-preserved c = (omega arith, omega arith, omega arith, answered_yes _ _ c.group_keeps.ensures (ap not c.if-not-group_keeps.false))
 
 pub rest_is_blank-requires : goal.rest_is_blank-requires
 rest_is_blank-requires c =

@@ -2,7 +2,7 @@
 use Prim.Native.Nat.{ℕ}
 use mathlib.Core.Path.{◌≡◌, sym, ap, ◌∙◌}
 use mathlib.Core.Logic.{◌≢◌}
-use mathlib.Core.Bool.{true}
+use mathlib.Core.Bool.{true, not}
 use native.Mathlib.Omega.{arith}
 use borrow.Author.Rules.{rules}
 use borrow.Author.Tests.{eqb-true, eqb-false, not-true, not-false}
@@ -101,7 +101,7 @@ is_permitted-requires c =
     let called = (of-place c.before).requires in (sized_places called, sized_objects called, c.object_place-place.ensures.1, omega arith)
 
 pub returns-then-not-is_permitted : goal.returns-then-not-is_permitted
-returns-then-not-is_permitted c = not_permitted (lengths c.before.before.before) (sym c.is_permitted.ensures ∙ not-true _ c.if-not-is_permitted.true)
+returns-then-not-is_permitted c = not_permitted (lengths c.before.before.before) (sym c.is_permitted.ensures ∙ not-true _ (ap not c.if-not-is_permitted.true))
 
 pub load-requires : goal.load-requires
 load-requires c = (sized_places (of-portal c.before).requires, c.object_place-place.ensures.1)
@@ -135,7 +135,7 @@ bounds-source-0 c = omega (arith, (lengths c.before.before.before.before.before.
 pub returns-then-not-payload_fits : goal.returns-then-not-payload_fits
 returns-then-not-payload_fits c =
     too_long (has_callee c.before.before.before.before.before.before.before.before) (apart c.before.before.before.before.before.before) (one_cpu c.before.before.before)
-    (sym c.payload_fits.ensures ∙ not-true _ c.if-not-payload_fits.true)
+    (sym c.payload_fits.ensures ∙ not-true _ (ap not c.if-not-payload_fits.true))
 
 pub load-receiver-requires : goal.load-receiver-requires
 load-receiver-requires c = (sized_objects (of-fitting c).requires, callee_small (has_callee c.before.before.before.before.before.before.before.before), omega arith)

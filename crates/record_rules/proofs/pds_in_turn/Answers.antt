@@ -1,8 +1,8 @@
 -- The loop's invariant: the count is that of the PDs before the record, and each of these keeps the rule. The measure is how many used records are left.
 use Prim.Native.Nat.{◌-◌, ◌≤◌}
-use mathlib.Core.Path.{◌≡◌, refl, sym, ◌∙◌}
+use mathlib.Core.Path.{◌≡◌, refl, sym, ◌∙◌, ap}
 use mathlib.Core.Logic.{⊎_elim}
-use mathlib.Core.Bool.{true}
+use mathlib.Core.Bool.{true, not}
 use native.Mathlib.Omega.{arith}
 use borrow.Author.Rules.{rules}
 use Rattle.words.specs.Sizes.{records}
@@ -17,7 +17,7 @@ use Rattle.record_rules.proofs.RestLaws.{rest_out, rest_in}
 use Rattle.record_rules.proofs.pds_in_turn.Goals as goal
 
 pub returns-then-not-rest_is_clear : goal.returns-then-not-rest_is_clear
-returns-then-not-rest_is_clear c = rest_out _ _ _ c.rest_is_clear.ensures c.used_records-used.ensures c.if-not-rest_is_clear.true
+returns-then-not-rest_is_clear c = rest_out _ _ _ c.rest_is_clear.ensures c.used_records-used.ensures (ap not c.if-not-rest_is_clear.true)
 
 pub loop-at-init : goal.loop-at-init
 loop-at-init c = search (no_pds, all_below_none, rules)
@@ -25,7 +25,7 @@ loop-at-init c = search (no_pds, all_below_none, rules)
 pub returns-then-not-pd_keeps : goal.returns-then-not-pd_keeps
 returns-then-not-pd_keeps c =
     let used = c.used_records-used in
-    out_of_turn _ (sym (all_below_broken _ records _ _ (omega (arith, used.ensures.few)) c.pd_keeps.ensures c.if-not-pd_keeps.true))
+    out_of_turn _ (sym (all_below_broken _ records _ _ (omega (arith, used.ensures.few)) c.pd_keeps.ensures (ap not c.if-not-pd_keeps.true)))
 
 pub overflow_add-before : goal.overflow_add-before
 overflow_add-before c =
@@ -52,5 +52,5 @@ loop-at-preserved c =
 pub returns : goal.returns
 returns c =
     let loop = c.loop-at in
-    rest_in _ _ _ c.rest_is_clear.ensures c.used_records-used.ensures _ c.if-not-rest_is_clear.false
+    rest_in _ _ _ c.rest_is_clear.ensures c.used_records-used.ensures _ (ap not c.if-not-rest_is_clear.false)
     (pds_end _ _ loop.at _ (omega arith) (omega arith) loop.invariant.1) (sym (all_below_done _ _ loop.at (omega arith) (omega arith) loop.invariant.2))

@@ -1,6 +1,7 @@
 -- The walk so far: the chain of the first place is whole exactly where that of the place come to is, within the places left.
+use mathlib.Core.Bool.{not}
 use Prim.Native.Nat.{◌<◌}
-use mathlib.Core.Path.{refl}
+use mathlib.Core.Path.{refl, ap}
 use native.Mathlib.Omega.{arith}
 use Rattle.words.specs.Sizes.{places}
 use Rattle.repair.proofs.WalkLaws.{Walked, walk_starts, walk_broken, walk_ends, walk_above, walk_on, walk_over}
@@ -16,7 +17,7 @@ is_set-requires c = c.loop-left.invariant.0
 
 pub returns-then-not-is_set : goal.returns-then-not-is_set
 returns-then-not-is_set c =
-    walk_broken _ _ _ _ _ c.loop-left.invariant.1 c.loop-left.invariant.0 (omega arith) _ c.is_set.ensures c.if-not-is_set.true
+    walk_broken _ _ _ _ _ c.loop-left.invariant.1 c.loop-left.invariant.0 (omega arith) _ c.is_set.ensures (ap not c.if-not-is_set.true)
 
 pub load-cap-requires : goal.load-cap-requires
 load-cap-requires c =
@@ -24,7 +25,7 @@ load-cap-requires c =
 
 pub returns-in_default : goal.returns-in_default
 returns-in_default c =
-    walk_ends _ _ _ _ _ c.loop-left.invariant.1 c.loop-left.invariant.0 (omega arith) _ c.is_set.ensures c.if-not-is_set.false c.load-cap.ensures c.linked.ensures
+    walk_ends _ _ _ _ _ c.loop-left.invariant.1 c.loop-left.invariant.0 (omega arith) _ c.is_set.ensures (ap not c.if-not-is_set.false) c.load-cap.ensures c.linked.ensures
     c.in_default.is
 
 pub overflow_sub-left : goal.overflow_sub-left
@@ -35,9 +36,9 @@ loop-left-smaller c = omega arith
 
 pub loop-left-preserved : goal.loop-left-preserved
 loop-left-preserved c = (
-  walk_above _ _ _ _ _ c.loop-left.invariant.1 c.loop-left.invariant.0 (omega arith) _ c.is_set.ensures c.if-not-is_set.false c.load-cap.ensures c.linked.ensures
+  walk_above _ _ _ _ _ c.loop-left.invariant.1 c.loop-left.invariant.0 (omega arith) _ c.is_set.ensures (ap not c.if-not-is_set.false) c.load-cap.ensures c.linked.ensures
       c.in-At.is,
-  walk_on _ _ _ _ _ c.loop-left.invariant.1 c.loop-left.invariant.0 (omega arith) _ c.is_set.ensures c.if-not-is_set.false c.load-cap.ensures c.linked.ensures
+  walk_on _ _ _ _ _ c.loop-left.invariant.1 c.loop-left.invariant.0 (omega arith) _ c.is_set.ensures (ap not c.if-not-is_set.false) c.load-cap.ensures c.linked.ensures
       c.in-At.is,
 )
 

@@ -1,4 +1,5 @@
 -- The checks are the rule's, in its order, and the count that is stored is the rule's step.
+use mathlib.Core.Bool.{not}
 use Prim.Native.Nat.{◌<◌}
 use mathlib.Core.Path.{◌≡◌, sym, ap, ◌∙◌}
 use native.Mathlib.Omega.{arith}
@@ -54,7 +55,7 @@ is_permitted-requires c =
 
 pub returns-then-not-is_permitted : goal.returns-then-not-is_permitted
 returns-then-not-is_permitted c =
-    not_permitted (search rules) (omega arith) (is_named c.before.before.before) (sym c.is_permitted.ensures ∙ not-true _ c.if-not-is_permitted.true)
+    not_permitted (search rules) (omega arith) (is_named c.before.before.before) (sym c.is_permitted.ensures ∙ not-true _ (ap not c.if-not-is_permitted.true))
 
 pub load-requires : goal.load-requires
 load-requires c = search (sized_places, rules)

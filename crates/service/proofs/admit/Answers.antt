@@ -1,6 +1,6 @@
 -- Who is admitted is decided by the call's number, the caller's number and the kind of its record.
-use mathlib.Core.Path.{◌≡◌, sym, ◌∙◌}
-use mathlib.Core.Bool.{true}
+use mathlib.Core.Path.{◌≡◌, sym, ◌∙◌, ap}
+use mathlib.Core.Bool.{true, not}
 use native.Mathlib.Omega.{arith}
 use borrow.Author.Rules.{rules}
 use borrow.Author.Tests.{not-true, not-false}
@@ -13,7 +13,7 @@ has_rule_lem : (c : tie.Else1) → is_built c.before.before.before.before.args.n
 has_rule_lem c = sym c.before.is_built_lem.ensures ∙ not-false _ c.if1.false
 
 pub returns-then-not-is_built : goal.returns-then-not-is_built
-returns-then-not-is_built c = sym (admission_not_built _ _ _ _ (sym c.is_built.ensures ∙ not-true _ c.if-not-is_built.true))
+returns-then-not-is_built c = sym (admission_not_built _ _ _ _ (sym c.is_built.ensures ∙ not-true _ (ap not c.if-not-is_built.true)))
 
 pub returns-in_default : goal.returns-in_default
 returns-in_default c = sym (admission_beyond _ _ _ _ (has_rule_lem c.before.before.before) (sym c.found.ensures ∙ c.in_default.is))

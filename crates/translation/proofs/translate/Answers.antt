@@ -1,4 +1,6 @@
 -- The ancestors of the offsets before the search's are in a line inside the window, and the mask has what all of their places permit.
+use mathlib.Core.Bool.{not}
+use mathlib.Core.Path.{ap}
 use Prim.Native.Nat.{◌-◌}
 use mathlib.Core.Logic.{⊎_elim}
 use native.Mathlib.Omega.{arith}
@@ -46,7 +48,7 @@ search-preserved c = let s = c.search.invariant in
     search_on s c.search-test.true c.place_at-place.ensures.0 c.nearest_in.ensures
     c.in-At.is c.selector-selector.ensures c.base_of-base.ensures
     c.number.ensures c.number-in-search.ensures c.lies_there.ensures
-    c.if-not-lies_there.false c.load-cap.ensures c.keep-mask.ensures
+    (ap not c.if-not-lies_there.false) c.load-cap.ensures c.keep-mask.ensures
 
 pub returns-then-i-size : goal.returns-then-i-size
 returns-then-i-size c = let s = c.search.invariant in

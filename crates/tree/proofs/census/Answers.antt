@@ -1,4 +1,5 @@
 -- Each way out is one of the definition's.
+use mathlib.Core.Bool.{not}
 use mathlib.Core.Path.{ap, ◌∙◌}
 use native.Mathlib.Omega.{arith}
 use lib.ListN.{length}
@@ -16,7 +17,7 @@ load-cap-requires c =
 
 pub returns-then-not-is_live : goal.returns-then-not-is_live
 returns-then-not-is_live c =
-    counts_null _ _ _ c.found.ensures c.in-At.is c.load-cap.ensures c.is_live.ensures c.if-not-is_live.true
+    counts_null _ _ _ c.found.ensures c.in-At.is c.load-cap.ensures c.is_live.ensures (ap not c.if-not-is_live.true)
 
 pub mark_below-requires : goal.mark_below-requires
 mark_below-requires c =
@@ -26,7 +27,7 @@ pub returns-then-list-count : goal.returns-then-list-count
 returns-then-list-count c =
     let descend = marked_descendants _ _ c.mark_below.ensures.0 in
     counts_short _ _ _ c.found.ensures c.in-At.is c.load-cap.ensures c.is_live.ensures
-    c.if-not-is_live.false (c.count_marked-count.ensures ∙ ap length descend) c.if-list-count.true
+    (ap not c.if-not-is_live.false) (c.count_marked-count.ensures ∙ ap length descend) c.if-list-count.true
 
 pub list_marked-requires : goal.list_marked-requires
 list_marked-requires c =
@@ -36,5 +37,5 @@ pub returns : goal.returns
 returns c =
     let descend = marked_descendants _ _ c.mark_below.ensures.0 in
     counts_all _ _ _ c.found.ensures c.in-At.is c.load-cap.ensures c.is_live.ensures
-    c.if-not-is_live.false (c.count_marked-count.ensures ∙ ap length descend) c.if-list-count.false
+    (ap not c.if-not-is_live.false) (c.count_marked-count.ensures ∙ ap length descend) c.if-list-count.false
     (rw descend at c.list_marked.ensures)
