@@ -6,7 +6,7 @@ use native.Mathlib.Nat.{pow-suc, one-le-pow, div-div-eq-div-mul}
 use native.Mathlib.Numerals.{add-one}
 use native.Mathlib.Omega.{arith}
 use lib.Arith.{mod-mul}
-use lib.ListN.{length, take, drop, get_or, set, length-set}
+use lib.ListN.{length, get_or, set, length-set}
 use lib.Seq.{take-nil, drop-nil, take_at, drop_at}
 use Rattle.endian.specs.Parts.{AreBytes, part, written}
 use Rattle.endian.specs.Numbers.{little, bytes_of, number_at}

@@ -1,10 +1,7 @@
 -- The numbers that the loop has passed are read, and the others are as they were.
-use Prim.Native.Nat.{◌+◌, ◌*◌, ◌-◌, ◌≤◌}
-use mathlib.Core.Path.{◌≡◌, refl}
-use mathlib.Core.List.{◌++◌}
+use mathlib.Core.Path.{refl}
 use native.Mathlib.Omega.{arith}
-use lib.ListN.{length, drop, length-set}
-use Rattle.endian.specs.Runs.{numbers_at}
+use lib.ListN.{length-set}
 use Rattle.endian.proofs.RunLaws.{none_read, read_more, all_read}
 use Rattle.endian.proofs.get32s.Goals as goal
 

@@ -1,11 +1,9 @@
 -- The numbers that the loop has passed are read, and the others are as they were.
 use Prim.Native.Nat.{◌+◌, ◌*◌, ◌-◌, ◌≤◌}
-use mathlib.Core.Path.{◌≡◌, refl}
+use mathlib.Core.Path.{◌≡◌}
 use mathlib.Core.List.{◌++◌}
-use native.Mathlib.Omega.{arith}
-use lib.ListN.{length, drop, length-set}
+use lib.ListN.{length, drop}
 use Rattle.endian.specs.Runs.{numbers_at}
-use Rattle.endian.proofs.RunLaws.{none_read, read_more, all_read}
 use Rattle.endian.proofs.get32s.Given as goal
 
 abbrev pub invariant-loop-i : goal.invariant-loop-i

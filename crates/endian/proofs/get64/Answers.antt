@@ -1,8 +1,6 @@
 -- The low half and the high half.
-use Prim.Native.Nat.{◌+◌}
 use native.Mathlib.Omega.{arith}
 use Rattle.endian.proofs.NumberLaws.{number_add}
-use borrow.Author.Rules.{rules}
 use Rattle.endian.proofs.get64.Goals as goal
 
 pub returns : goal.returns

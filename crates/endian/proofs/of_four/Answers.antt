@@ -1,7 +1,6 @@
 -- The low two bytes and the high two.
 use native.Mathlib.Omega.{arith}
 use Rattle.endian.specs.Numbers.{little}
-use borrow.Author.Rules.{rules}
 use Rattle.endian.proofs.of_four.Goals as goal
 
 pub returns : goal.returns

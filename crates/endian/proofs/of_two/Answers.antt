@@ -1,7 +1,6 @@
 -- Two bytes by the definition.
 use native.Mathlib.Omega.{arith}
 use Rattle.endian.specs.Numbers.{little}
-use borrow.Author.Rules.{rules}
 use Rattle.endian.proofs.of_two.Goals as goal
 
 pub returns : goal.returns

@@ -1,12 +1,10 @@
 -- The numbers that the loop has passed are written.
 use Prim.Native.Nat.{◌+◌, ◌*◌, ◌-◌, ◌≤◌}
-use mathlib.Core.Path.{◌≡◌, refl}
-use native.Mathlib.Omega.{arith}
+use mathlib.Core.Path.{◌≡◌}
 use lib.ListN.{length, take}
 use Rattle.endian.specs.Parts.{written}
 use Rattle.endian.specs.Numbers.{bytes_of}
 use Rattle.endian.specs.Runs.{bytes_of_each}
-use Rattle.endian.proofs.RunLaws.{none_yet, number_more, numbers_all}
 use Rattle.endian.proofs.put32s.Given as goal
 
 abbrev pub invariant-loop-i : goal.invariant-loop-i

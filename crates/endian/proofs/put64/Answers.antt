@@ -1,7 +1,6 @@
 -- The low half and the high half, one written after the other.
 use mathlib.Core.Path.{◌∙◌}
 use Rattle.endian.proofs.NumberLaws.{written_add}
-use borrow.Author.Rules.{rules}
 use Rattle.endian.proofs.put64.Goals as goal
 
 pub returns : goal.returns

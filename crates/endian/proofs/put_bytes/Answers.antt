@@ -1,9 +1,8 @@
 -- The bytes that the loop has passed are written.
-use Prim.Native.Nat.{◌+◌, ◌-◌, ◌≤◌}
-use mathlib.Core.Path.{◌≡◌, refl}
+use mathlib.Core.Path.{refl}
 use native.Mathlib.Omega.{arith}
-use lib.ListN.{length, length-set}
-use lib.Seq.{paste, paste-zero}
+use lib.ListN.{length-set}
+use lib.Seq.{paste-zero}
 use Rattle.endian.proofs.PartLaws.{copied_more, copied_whole}
 use Rattle.endian.proofs.put_bytes.Goals as goal
 
