@@ -1,10 +1,10 @@
 -- What is written reads back equal, and what is read is written back byte for byte.
-use Prim.Native.Nat.{ℕ, zero, suc, ◌+◌, ◌-◌, ◌*◌, ◌/◌, ◌%◌, ◌^◌, ◌≤◌, ◌<◌}
+use Prim.Native.Nat.{ℕ, zero, suc, ◌+◌, ◌*◌, ◌≤◌, ◌<◌}
 use mathlib.Core.Path.{◌≡◌, refl, sym, ap, ◌∙◌}
 use mathlib.Core.Bool.{true}
-use mathlib.Core.List.{List, [], ◌∷◌, ◌++◌}
+use mathlib.Core.List.{List, ◌++◌}
 use native.Mathlib.Omega.{arith}
-use lib.ListN.{length, take, drop, get_or}
+use lib.ListN.{length, take, get_or}
 use lib.Seq.{take_all}
 use Rattle.endian.specs.Parts.{AreBytes, part}
 use Rattle.endian.specs.Numbers.{bytes_of}
@@ -12,7 +12,7 @@ use Rattle.endian.specs.Runs.{bytes_of_each, spaced, numbers_at, Each}
 use Rattle.endian.proofs.PartLaws.{part_add}
 use Rattle.endian.proofs.NumberLaws.{number_below}
 use Rattle.endian.proofs.RunLaws.{length_spaced, write_each, write_numbers}
-use Rattle.hip_format.specs.Format.{signature, greatest_length, Contents, fields, cpu_bytes, memory_bytes, memory_start, page_length, short_fields, page_with, word_sum, checksum_of, page}
+use Rattle.hip_format.specs.Format.{signature, greatest_length, Contents, fields, cpu_bytes, memory_bytes, memory_start, page_length, short_fields, page_with, checksum_of, page}
 use Rattle.hip_format.specs.Reader.{checksum_field, length_field, cpu_offset, cpu_size_field, memory_offset, memory_size_field, header_at, cpu_at, memory_at, cpu_count, memory_count, contents_of, types_allowed, accepted, judged}
 use Rattle.hip_format.specs.Consequences.{HeaderFits, CpuFits, MemoryFits, Fits, LaysOut, Typed}
 use Rattle.hip_format.proofs.FieldLaws.{cpu_again, cpu_fits, memory_again, memory_fits}

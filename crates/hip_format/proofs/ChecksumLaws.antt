@@ -1,12 +1,12 @@
 -- Of all checksums of a page one makes the sum of its words 0.
-use Prim.Native.Nat.{ℕ, zero, suc, ◌+◌, ◌-◌, ◌*◌, ◌/◌, ◌%◌, ◌≤◌, ◌<◌}
-use mathlib.Core.Path.{◌≡◌, refl, sym, ap, ◌∙◌}
+use Prim.Native.Nat.{ℕ, ◌+◌, ◌%◌, ◌<◌}
+use mathlib.Core.Path.{◌≡◌, refl}
 use mathlib.Core.Logic.{◌↔◌}
 use mathlib.Core.List.{List, [], ◌∷◌, ◌++◌, append_assoc}
 use native.Mathlib.Omega.{arith}
 use Rattle.endian.specs.Numbers.{bytes_of}
 use Rattle.endian.specs.Runs.{bytes_of_each}
-use Rattle.hip_format.specs.Format.{signature, header_size, cpu_size, memory_size, Contents, fields, cpu_bytes, memory_bytes, memory_start, page_length, short_fields, page_with, word_sum, complement, checksum_of}
+use Rattle.hip_format.specs.Format.{signature, header_size, cpu_size, memory_size, Contents, fields, cpu_bytes, memory_bytes, memory_start, page_length, page_with, word_sum, complement, checksum_of}
 
 -- the sum of a number's two bytes and what follows them
 pub sum_number : (number : ℕ) (bytes : List ℕ) → number < 65536 → word_sum (bytes_of 2 number ++ bytes) ≡ number + word_sum bytes

@@ -1,16 +1,16 @@
 -- One number or one descriptor: how long its bytes are, what is read where they stand, and what the bytes of what is read are.
-use Prim.Native.Nat.{ℕ, zero, suc, ◌+◌, ◌*◌, ◌^◌, ◌≤◌, ◌<◌}
+use Prim.Native.Nat.{ℕ, zero, suc, ◌+◌, ◌^◌, ◌≤◌, ◌<◌}
 use mathlib.Core.Path.{◌≡◌, refl, sym, ap, ◌∙◌}
 use mathlib.Core.Bool.{Bool, true, false, ◌&&◌, false≢true}
-use mathlib.Core.List.{List, [], ◌∷◌, ◌++◌, append_assoc}
+use mathlib.Core.List.{List, ◌++◌, append_assoc}
 use native.Mathlib.Nat.{add-zero}
 use native.Mathlib.Omega.{arith}
 use lib.Dec.{ltb, leb}
 use lib.IntN.{ℤ, pos, negsuc}
-use lib.ListN.{length, take, drop, get_or, length-append}
+use lib.ListN.{length, get_or, length-append}
 use lib.Seq.{get_or-append-add}
 use mir.Syntax.{w32}
-use mir.Val.{of_z, to_z, SFits}
+use mir.Val.{of_z, to_z}
 use mir.Facts.{to_z-of_z, of_z-to_z}
 use borrow.Author.Tests.{ltb-true, leb-true}
 use Rattle.endian.specs.Parts.{AreBytes, part}

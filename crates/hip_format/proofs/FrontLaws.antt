@@ -1,8 +1,8 @@
 -- Bytes after the first 65,536 change no judgement.
-use Prim.Native.Nat.{ℕ, ◌+◌, ◌≤◌, ◌<◌}
+use Prim.Native.Nat.{ℕ, ◌≤◌}
 use mathlib.Core.Path.{◌≡◌, refl, sym, ap, ◌∙◌}
 use mathlib.Core.Bool.{Bool, true, false}
-use mathlib.Core.List.{List, [], ◌∷◌}
+use mathlib.Core.List.{List}
 use native.Mathlib.Omega.{arith}
 use lib.Dec.{leb}
 use lib.ListN.{length, take}
@@ -12,11 +12,11 @@ use Rattle.endian.specs.Parts.{AreBytes}
 use Rattle.endian.proofs.PartLaws.{part_bytes}
 use Rattle.endian.proofs.NumberLaws.{number_below}
 use Rattle.hip_format.specs.Format.{signature}
-use Rattle.hip_format.specs.Reader.{length_field, same_bytes, refused, judged}
-use Rattle.hip_format.specs.Consequences.{Signed, Measured}
+use Rattle.hip_format.specs.Reader.{same_bytes, refused, judged}
+use Rattle.hip_format.specs.Consequences.{Measured}
 use Rattle.hip_format.specs.declared.Refusal.{Refusal}
 use Rattle.hip_format.specs.declared.Refusal.TheVariants.{Signature, Length}
-use Rattle.hip_format.proofs.JudgeLaws.{Decides, decides_same, refutes, refused_signature, refused_length}
+use Rattle.hip_format.proofs.JudgeLaws.{decides_same, refutes, refused_signature, refused_length}
 
 -- why so many bytes are refused, by whether they begin with the signature
 abbrev by : Bool → Refusal

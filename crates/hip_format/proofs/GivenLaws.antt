@@ -1,12 +1,11 @@
 -- What the writer is given.
-use Prim.Native.Nat.{ℕ, zero, suc, ◌+◌, ◌*◌, ◌/◌, ◌≤◌, ◌<◌, min}
-use mathlib.Core.Path.{◌≡◌, refl, sym, ap, ◌∙◌}
+use Prim.Native.Nat.{ℕ, ◌+◌, ◌*◌, ◌/◌, ◌≤◌, min}
+use mathlib.Core.Path.{◌≡◌, refl}
 use mathlib.Core.Logic.{◌↔◌}
 use mathlib.Core.List.{List, [], ◌∷◌, ◌++◌, map, append_assoc, append-nil}
 use native.Mathlib.Omega.{arith}
 use lib.IntN.{ℤ, pos}
 use lib.ListN.{length, take, get_or, length-map, length-append}
-use Rattle.endian.specs.Parts.{part}
 use Rattle.endian.specs.Runs.{bytes_of_each, spaced, Each}
 use Rattle.endian.proofs.RunLaws.{length_spaced, write_each, read_each, length_each}
 use Rattle.hip_format.specs.Format.{Contents, cpu_bytes}

@@ -1,20 +1,18 @@
 -- A page reads as what it was made of, and is made again of what it reads as.
-use Prim.Native.Nat.{ℕ, zero, suc, ◌+◌, ◌-◌, ◌*◌, ◌/◌, ◌%◌, ◌≤◌, ◌<◌}
+use Prim.Native.Nat.{ℕ, ◌+◌, ◌*◌, ◌≤◌, ◌<◌}
 use mathlib.Core.Path.{◌≡◌, refl, sym, ap, ◌∙◌}
-use mathlib.Core.Bool.{Bool, true, false, ◌&&◌}
+use mathlib.Core.Bool.{true}
 use mathlib.Core.List.{List, [], ◌∷◌, ◌++◌, append_assoc, append-nil}
 use native.Mathlib.Omega.{arith}
-use lib.ListN.{length, take, drop, get_or, length-append}
-use Rattle.endian.specs.Parts.{AreBytes, part}
+use lib.ListN.{length, get_or, length-append}
 use Rattle.endian.specs.Numbers.{bytes_of}
 use Rattle.endian.specs.Runs.{bytes_of_each, spaced, numbers_at, Each}
 use Rattle.endian.proofs.NumberLaws.{length_bytes}
 use Rattle.endian.proofs.RunLaws.{length_each, read_each, read_numbers}
 use Rattle.hip_format.specs.Format.{signature, type_allowed, greatest_length, Contents, fields, cpu_bytes, memory_bytes, memory_start, page_length, short_fields, page_with}
-use Rattle.hip_format.specs.Reader.{header_at, cpu_at, memory_at, types_allowed, contents_of}
+use Rattle.hip_format.specs.Reader.{header_at, cpu_at, memory_at, types_allowed}
 use Rattle.hip_format.specs.Consequences.{CpuFits, MemoryFits, Fits}
 use Rattle.hip_format.specs.declared.Header.{Header}
-use Rattle.hip_format.specs.declared.Cpu.{Cpu}
 use Rattle.hip_format.specs.declared.Memory.{Memory}
 use Rattle.hip_format.proofs.FieldLaws.{and_left, and_right, length_memory, cpu_back, MemoryGood, memory_back}
 

@@ -1,5 +1,5 @@
 -- What writing comes to, by its tests, and what is written.
-use Prim.Native.Nat.{ℕ, ◌+◌, ◌≤◌, ◌<◌}
+use Prim.Native.Nat.{ℕ, ◌≤◌, ◌<◌}
 use mathlib.Core.Path.{◌≡◌, refl, sym, ap, ◌∙◌}
 use mathlib.Core.Logic.{◌↔◌}
 use mathlib.Core.Bool.{Bool, true, false, cond, not}
@@ -12,9 +12,9 @@ use borrow.Author.Tests.{ltb-true, ltb-false, lt-ltb, le-ltb}
 use Rattle.endian.specs.Parts.{AreBytes}
 use Rattle.endian.proofs.NumberLaws.{number_below}
 use Rattle.hip_format.specs.Format.{greatest_length, Contents, page_length, checksum_of, page}
-use Rattle.hip_format.specs.Reader.{contents_of, types_allowed, accepted, judged}
+use Rattle.hip_format.specs.Reader.{types_allowed, accepted, judged}
 use Rattle.hip_format.specs.Writer.{Writing, writing}
-use Rattle.hip_format.specs.Consequences.{Fits, LaysOut, Typed}
+use Rattle.hip_format.specs.Consequences.{Fits}
 use Rattle.hip_format.specs.declared.Written.{Written}
 use Rattle.hip_format.specs.declared.Written.TheVariants.{Done, «Type», Large, Room}
 use Rattle.hip_format.proofs.PageLaws.{length_page}

@@ -5,8 +5,8 @@ use Rattle.endian.specs.Parts.{AreBytes}
 use Rattle.endian.specs.Numbers.{bytes_of}
 use Rattle.endian.specs.Runs.{bytes_of_each, Each}
 use Rattle.hip_format.specs.Format.{type_allowed, Contents, fields, cpu_bytes, page_length, page_with, word_sum, checksum_of, page}
-use Rattle.hip_format.specs.Reader.{length_field, cpu_offset, cpu_size_field, memory_offset, memory_size_field, cpu_at, memory_at, contents_of, types_allowed, Judgement, refused, accepted, judged, cpu_of, memory_of}
-use Rattle.hip_format.specs.Writer.{memory_given, shortest, given, Writing, writing}
+use Rattle.hip_format.specs.Reader.{length_field, cpu_offset, cpu_size_field, memory_offset, memory_size_field, cpu_at, memory_at, contents_of, types_allowed, refused, accepted, judged, cpu_of, memory_of}
+use Rattle.hip_format.specs.Writer.{shortest, given, writing}
 use Rattle.hip_format.specs.declared.Header.{Header}
 use Rattle.hip_format.specs.declared.Cpu.{Cpu}
 use Rattle.hip_format.specs.declared.Memory.{Memory}

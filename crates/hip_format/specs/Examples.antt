@@ -1,8 +1,8 @@
 -- The example of the manual, and pages at the bounds, as one list of statements under one name.
-use Rattle.std.specs.Prelude.{ℕ, ◌+◌, ◌≡◌, Bool, true, false, List, [], ◌∷◌, ◌++◌, ℤ, pos, negsuc, length, take, set}
+use Rattle.std.specs.Prelude.{ℕ, ◌≡◌, List, [], ◌∷◌, ℤ, pos, negsuc, take, set}
 use Rattle.hip_format.specs.Format.{Contents, page}
-use Rattle.hip_format.specs.Reader.{refused, accepted, judged, reading, cpu_of, memory_of}
-use Rattle.hip_format.specs.Writer.{given, writing}
+use Rattle.hip_format.specs.Reader.{refused, accepted, judged, reading}
+use Rattle.hip_format.specs.Writer.{writing}
 use Rattle.hip_format.specs.declared.Header.{Header}
 use Rattle.hip_format.specs.declared.Cpu.{Cpu}
 use Rattle.hip_format.specs.declared.Memory.{Memory}

@@ -1,5 +1,5 @@
 -- Writing an information page: what the writer is given, its tests in their order, and what it leaves in the buffer.
-use Rattle.std.specs.Prelude.{ℕ, ◌/◌, min, Bool, true, false, cond, not, List, ◌++◌, ltb, ℤ, pos, length, get_or, drop}
+use Rattle.std.specs.Prelude.{ℕ, ◌/◌, min, cond, not, List, ◌++◌, ltb, ℤ, pos, length, get_or, drop}
 use Rattle.endian.specs.Runs.{spaced}
 use Rattle.hip_format.specs.Format.{cpu_size, greatest_length, Contents, page_length, page}
 use Rattle.hip_format.specs.Reader.{cpu_at, types_allowed}

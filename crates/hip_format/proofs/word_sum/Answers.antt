@@ -1,13 +1,7 @@
-use Prim.Native.Nat.{◌<◌}
-use Prim.Native.Nat.{◌+◌, ◌*◌, ◌-◌, ◌%◌, ◌≤◌}
-use mathlib.Core.Path.{◌≡◌, refl}
+use Prim.Native.Nat.{◌≤◌}
 use native.Mathlib.Omega.{arith}
 use lib.ListN.{length, drop, length-drop}
-use Rattle.hip_format.specs.Format.{word_sum}
 use Rattle.hip_format.proofs.SumLaws.{sum_more, sum_none}
-use Rattle.hip_format.proofs.word_sum.Reads as reads
-use Rattle.hip_format.proofs.word_sum.Lts as lts
-use Rattle.endian.proofs.get16.Reads as get16-reads
 use Rattle.hip_format.proofs.word_sum.Goals as goal
 
 -- src/lib.rt:141:5

@@ -1,13 +1,8 @@
 use Prim.Native.Nat.{◌<◌}
-use Prim.Native.Nat.{◌+◌, ◌*◌, ◌-◌, ◌%◌, ◌≤◌}
-use mathlib.Core.Path.{◌≡◌, refl}
-use native.Mathlib.Omega.{arith}
-use lib.ListN.{length, drop, length-drop}
+use Prim.Native.Nat.{◌+◌, ◌-◌, ◌%◌, ◌≤◌}
+use mathlib.Core.Path.{◌≡◌}
+use lib.ListN.{length, drop}
 use Rattle.hip_format.specs.Format.{word_sum}
-use Rattle.hip_format.proofs.SumLaws.{sum_more, sum_none}
-use Rattle.hip_format.proofs.word_sum.Reads as reads
-use Rattle.hip_format.proofs.word_sum.Lts as lts
-use Rattle.endian.proofs.get16.Reads as get16-reads
 use Rattle.hip_format.proofs.word_sum.Given as goal
 
 abbrev pub invariant-loop-at : goal.invariant-loop-at
