@@ -1,16 +1,16 @@
 -- What the reader's tests say, and what it answers on each way out.
-use Prim.Native.Nat.{ℕ, zero, suc, ◌+◌, ◌-◌, ◌*◌, ◌/◌, ◌%◌, ◌^◌, ◌≤◌, ◌<◌}
+use Prim.Native.Nat.{ℕ, ◌+◌, ◌-◌, ◌*◌, ◌/◌, ◌%◌, ◌^◌, ◌≤◌, ◌<◌}
 use mathlib.Core.Path.{◌≡◌, refl, sym, ap, ◌∙◌}
-use mathlib.Core.Bool.{Bool, true, false, not, ◌&&◌, and-true}
-use mathlib.Core.List.{List, [], ◌∷◌}
+use mathlib.Core.Bool.{Bool, true, false, ◌&&◌, and-true}
+use mathlib.Core.List.{List}
 use native.Mathlib.Omega.{arith}
-use lib.Dec.{eqb, leb, ltb}
-use lib.IntN.{ℤ, pos, negsuc}
+use lib.Dec.{eqb}
+use lib.IntN.{ℤ}
 use lib.ListN.{length, take, get_or}
 use mir.Syntax.{w32}
 use mir.Val.{of_z, to_z}
 use mir.Facts.{of_z-to_z}
-use borrow.Author.Tests.{not-true, not-false, le-leb, lt-leb, lt-ltb, le-ltb, eq-eqb, ne_eqb, ltb-true, ltb-false, leb-true}
+use borrow.Author.Tests.{le-leb, lt-leb, eq-eqb, ne_eqb}
 use Rattle.endian.specs.Parts.{AreBytes}
 use Rattle.endian.specs.Numbers.{number_at}
 use Rattle.endian.specs.Runs.{spaced}
@@ -18,7 +18,7 @@ use Rattle.endian.proofs.NumberLaws.{number_below}
 use Rattle.endian.proofs.PartLaws.{part_four}
 use Rattle.endian.proofs.RunLaws.{length_spaced}
 use Rattle.hip_format.specs.Format.{signature, Contents, word_sum}
-use Rattle.hip_format.specs.Reader.{length_field, cpu_offset, cpu_size_field, memory_offset, memory_size_field, header_at, cpu_at, memory_at, cpu_count, memory_count, contents_of, same_bytes, layout_good, types_allowed, Judgement, refused, accepted, judged, summary, reading, cpu_of, memory_of}
+use Rattle.hip_format.specs.Reader.{length_field, cpu_offset, cpu_size_field, memory_offset, memory_size_field, header_at, cpu_at, memory_at, contents_of, same_bytes, layout_good, types_allowed, Judgement, refused, accepted, judged, summary, reading, cpu_of, memory_of}
 use Rattle.hip_format.specs.Consequences.{LaysOut, Typed}
 use Rattle.hip_format.specs.declared.Header.{Header}
 use Rattle.hip_format.specs.declared.Cpu.{Cpu}
@@ -78,30 +78,30 @@ module _ (bytes : List ℕ) where
   answers_short short = rw (lt-leb 56 (length bytes) short)
 
   module _ (long : 56 ≤ length bytes) (is_Signed : Bool) (signed : is_Signed ≡ same_bytes (take 4 bytes) signature) where
-    pub answers_signature : not is_Signed ≡ true → Refused Signature ≡ reading (judged bytes)
+    pub answers_signature : is_Signed ≡ false → Refused Signature ≡ reading (judged bytes)
     unfolding judged
-    answers_signature f = rw (le-leb 56 (length bytes) long, sym signed ∙ not-true is_Signed f)
+    answers_signature f = rw (le-leb 56 (length bytes) long, sym signed ∙ f)
 
-    module _ (t2 : not is_Signed ≡ false) (field : ℕ) (measured : field ≡ length_field bytes) where
+    module _ (t2 : is_Signed ≡ true) (field : ℕ) (measured : field ≡ length_field bytes) where
       pub answers_length : (field ≡ length bytes → ⊥) → Refused Length ≡ reading (judged bytes)
       unfolding judged
-      answers_length f = rw (le-leb 56 (length bytes) long, sym signed ∙ not-false is_Signed t2, ne_eqb (length_field bytes) (length bytes) (λ (e : length_field bytes ≡ length bytes). f (measured ∙ e)))
+      answers_length f = rw (le-leb 56 (length bytes) long, sym signed ∙ t2, ne_eqb (length_field bytes) (length bytes) (λ (e : length_field bytes ≡ length bytes). f (measured ∙ e)))
 
       module _ (t3 : field ≡ length bytes) (is_laid_out : Bool) (laid_out : is_laid_out ≡ layout_good bytes) where
-        pub answers_layout : not is_laid_out ≡ true → Refused Layout ≡ reading (judged bytes)
+        pub answers_layout : is_laid_out ≡ false → Refused Layout ≡ reading (judged bytes)
         unfolding judged
         answers_layout f =
-            rw (le-leb 56 (length bytes) long, sym signed ∙ not-false is_Signed t2, eq-eqb (length_field bytes) (length bytes) (sym measured ∙ t3), sym laid_out ∙ not-true is_laid_out f)
+            rw (le-leb 56 (length bytes) long, sym signed ∙ t2, eq-eqb (length_field bytes) (length bytes) (sym measured ∙ t3), sym laid_out ∙ f)
 
-        module _ (t4 : not is_laid_out ≡ false) (sum : ℕ) (summed : sum ≡ word_sum bytes % 65536) where
+        module _ (t4 : is_laid_out ≡ true) (sum : ℕ) (summed : sum ≡ word_sum bytes % 65536) where
           pub answers_checksum : (sum ≡ 0 → ⊥) → Refused Checksum ≡ reading (judged bytes)
           unfolding judged
           answers_checksum f =
               rw (
                 le-leb 56 (length bytes) long,
-                sym signed ∙ not-false is_Signed t2,
+                sym signed ∙ t2,
                 eq-eqb (length_field bytes) (length bytes) (sym measured ∙ t3),
-                sym laid_out ∙ not-false is_laid_out t4,
+                sym laid_out ∙ t4,
                 ne_eqb (word_sum bytes % 65536) 0 (λ (e : word_sum bytes % 65536 ≡ 0). f (summed ∙ e)),
               )
 
@@ -111,29 +111,29 @@ module _ (bytes : List ℕ) where
             unfolding contents_of
             typed = rw begins at allowed
 
-            pub answers_type : not are_allowed ≡ true → Refused «Type» ≡ reading (judged bytes)
+            pub answers_type : are_allowed ≡ false → Refused «Type» ≡ reading (judged bytes)
             unfolding judged
             answers_type f =
                 rw (
                   le-leb 56 (length bytes) long,
-                  sym signed ∙ not-false is_Signed t2,
+                  sym signed ∙ t2,
                   eq-eqb (length_field bytes) (length bytes) (sym measured ∙ t3),
-                  sym laid_out ∙ not-false is_laid_out t4,
+                  sym laid_out ∙ t4,
                   eq-eqb (word_sum bytes % 65536) 0 (sym summed ∙ t5),
-                  sym typed ∙ not-true are_allowed f,
+                  sym typed ∙ f,
                 )
 
-            pub answers_summary : not are_allowed ≡ false → (header : Header) → header ≡ header_at bytes →
+            pub answers_summary : are_allowed ≡ true → (header : Header) → header ≡ header_at bytes →
                 Accepted (record { header = header; cpus = (start - 56) / 4; memories = (length bytes - start) / 24 }) ≡ reading (judged bytes)
             unfolding judged contents_of
             answers_summary t header made =
                 rw (
                   le-leb 56 (length bytes) long,
-                  sym signed ∙ not-false is_Signed t2,
+                  sym signed ∙ t2,
                   eq-eqb (length_field bytes) (length bytes) (sym measured ∙ t3),
-                  sym laid_out ∙ not-false is_laid_out t4,
+                  sym laid_out ∙ t4,
                   eq-eqb (word_sum bytes % 65536) 0 (sym summed ∙ t5),
-                  sym typed ∙ not-false are_allowed t,
+                  sym typed ∙ t,
                   length_spaced,
                   length_spaced,
                   made,
@@ -146,9 +146,9 @@ pub record Begins (bytes : List ℕ) (start : ℕ) : Type 0 where
   pub inside : start ≤ length bytes
   pub ends : start + 24 * ((length bytes - start) / 24) ≤ length bytes
 
-pub begins : (bytes : List ℕ) (start : ℕ) (is_laid_out : Bool) → is_laid_out ≡ layout_good bytes → not is_laid_out ≡ false → start ≡ memory_offset bytes → Begins bytes start
+pub begins : (bytes : List ℕ) (start : ℕ) (is_laid_out : Bool) → is_laid_out ≡ layout_good bytes → is_laid_out ≡ true → start ≡ memory_offset bytes → Begins bytes start
 begins bytes start is_laid_out laid_out t e =
-    let lays = (decides_layout bytes).tells (sym laid_out ∙ not-false is_laid_out t) in
+    let lays = (decides_layout bytes).tells (sym laid_out ∙ t) in
     record { after_header = omega (arith, lays); inside = omega (arith, lays); ends = omega (arith, lays) }
 
 -- what an answer tells of the bytes: why they are refused, or that they are a page with so many descriptors

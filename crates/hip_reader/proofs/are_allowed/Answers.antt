@@ -1,16 +1,12 @@
 -- The types from the next descriptor on decide the rest.
 use mathlib.Core.Path.{ap}
-use Prim.Native.Nat.{ℕ, ◌-◌}
+use Prim.Native.Nat.{ℕ}
 use mir.Syntax.{w32}
 use mir.Val.{to_z}
-use Rattle.endian.specs.Runs.{spaced}
 use Rattle.hip_format.specs.Format.{type_allowed}
-use Prim.Native.Nat.{◌+◌, ◌*◌, ◌≤◌}
-use mathlib.Core.Path.{◌≡◌, refl, sym, ◌∙◌}
+use mathlib.Core.Path.{refl, sym, ◌∙◌}
 use native.Mathlib.Omega.{arith}
-use lib.ListN.{length}
-use borrow.Author.Tests.{not-true, not-false}
-use Rattle.hip_format.specs.Reader.{memory_at, types_allowed}
+use Rattle.hip_format.specs.Reader.{memory_at}
 use Rattle.hip_format.proofs.TypeLaws.{first_refused, first_allowed, none_left}
 use Rattle.hip_reader.proofs.are_allowed.Goals as goal
 
@@ -30,7 +26,7 @@ pub returns-then-not-is_allowed : goal.returns-then-not-is_allowed
 returns-then-not-is_allowed c = let turn = c.loop-left in
     let bytes = c.args.bytes.now in
     let asked = c.is_allowed.ensures ∙ ap (λ (bits : ℕ). type_allowed (to_z w32 bits)) c.get32.ensures in
-    first_refused (memory_at bytes) turn.at 24 turn.left _ (omega arith) asked (not-true _ c.if-not-is_allowed.true) ∙ sym turn.invariant.1
+    first_refused (memory_at bytes) turn.at 24 turn.left _ (omega arith) asked c.if-not-is_allowed.true ∙ sym turn.invariant.1
 
 pub overflow_add-at-in-loop-left : goal.overflow_add-at-in-loop-left
 overflow_add-at-in-loop-left c = omega arith
@@ -45,7 +41,7 @@ pub loop-left-preserved : goal.loop-left-preserved
 loop-left-preserved c = let turn = c.loop-left in
     let bytes = c.args.bytes.now in
     let asked = c.is_allowed.ensures ∙ ap (λ (bits : ℕ). type_allowed (to_z w32 bits)) c.get32.ensures in
-    (omega arith, turn.invariant.1 ∙ first_allowed (memory_at bytes) turn.at 24 turn.left _ (omega arith) asked (not-false _ c.if-not-is_allowed.false))
+    (omega arith, turn.invariant.1 ∙ first_allowed (memory_at bytes) turn.at 24 turn.left _ (omega arith) asked c.if-not-is_allowed.false)
 
 pub returns : goal.returns
 returns c = let turn = c.loop-left in

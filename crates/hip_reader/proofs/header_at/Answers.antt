@@ -1,5 +1,4 @@
 -- Ten numbers of 32 bits at their places.
-use borrow.Author.Rules.{rules}
 use Rattle.hip_reader.proofs.header_at.Goals as goal
 
 pub returns : goal.returns

@@ -1,6 +1,5 @@
 -- Four tests of bytes are the test of the signature.
 use Rattle.hip_reader.proofs.ReadLaws.{four_signed}
-use borrow.Author.Rules.{rules}
 use Rattle.hip_reader.proofs.is_signed.Goals as goal
 
 pub returns : goal.returns

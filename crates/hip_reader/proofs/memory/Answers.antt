@@ -1,7 +1,6 @@
 -- A descriptor stands where its index says.
 use native.Mathlib.Omega.{arith}
 use Rattle.hip_reader.proofs.ReadLaws.{refuses, accepts, no_memory_refused, memory_past, memory_found}
-use borrow.Author.Rules.{rules}
 use Rattle.hip_reader.proofs.memory.Goals as goal
 
 pub returns-then-summary-index : goal.returns-then-summary-index
