@@ -1,26 +1,26 @@
 -- Memory descriptors written one after the other, and the parts of a page.
-use Prim.Native.Nat.{ℕ, zero, suc, ◌+◌, ◌-◌, ◌*◌, ◌/◌, ◌%◌, ◌^◌, ◌≤◌, ◌<◌, min}
-use mathlib.Core.Path.{◌≡◌, refl, sym, ap, ◌∙◌}
-use mathlib.Core.Bool.{Bool, true, false, not}
+use Prim.Native.Nat.{ℕ, ◌+◌, ◌-◌, ◌*◌, ◌/◌, ◌≤◌, ◌<◌}
+use mathlib.Core.Path.{◌≡◌, sym, ap, ◌∙◌}
+use mathlib.Core.Bool.{Bool, true, false}
 use mathlib.Core.List.{List, [], ◌∷◌, ◌++◌, append_assoc}
 use native.Mathlib.Numerals.{add-one}
 use native.Mathlib.Omega.{arith}
-use lib.IntN.{ℤ, pos}
+use lib.IntN.{ℤ}
 use mir.Syntax.{w32}
 use mir.Val.{of_z, to_z, SFits}
 use mir.Facts.{to_z-of_z}
-use borrow.Author.Tests.{not-true, not-false, lt-ltb, le-ltb}
+use borrow.Author.Tests.{lt-ltb, le-ltb}
 use lib.ListN.{length, take, drop, length-append}
 use lib.Seq.{length-take-le, take-append_seam, take_at, drop_at}
 use Rattle.endian.specs.Parts.{written}
 use Rattle.endian.specs.Numbers.{bytes_of}
 use Rattle.endian.specs.Runs.{bytes_of_each, spaced}
-use Rattle.endian.proofs.PartLaws.{written_nothing, written_then, length_written}
+use Rattle.endian.proofs.PartLaws.{written_nothing, written_then}
 use Rattle.endian.proofs.NumberLaws.{length_bytes}
 use Rattle.endian.proofs.RunLaws.{length_spaced, spaced_more, length_each, item_more}
-use Rattle.hip_format.specs.Format.{signature, header_size, cpu_size, memory_size, type_allowed, Contents, fields, cpu_bytes, memory_bytes, memory_start, page_length, short_fields, page_with, word_sum, complement, checksum_of, page}
+use Rattle.hip_format.specs.Format.{signature, header_size, cpu_size, memory_size, type_allowed, Contents, fields, cpu_bytes, memory_bytes, memory_start, page_length, page_with, word_sum, complement, checksum_of, page}
 use Rattle.hip_format.specs.Reader.{cpu_at, types_allowed}
-use Rattle.hip_format.specs.Writer.{memory_given, shortest, given, Writing, writing}
+use Rattle.hip_format.specs.Writer.{memory_given, shortest, given, writing}
 use Rattle.hip_format.specs.declared.Header.{Header}
 use Rattle.hip_format.specs.declared.Memory.{Memory}
 use Rattle.hip_format.specs.declared.Written.TheVariants.{Done, «Type», Large, Room}
@@ -85,10 +85,10 @@ module _ (list : List ℕ) (at : ℕ) (what : ℕ → Memory) where
       rw (add-one, spaced_more what 0 1 i, same) (item_more memory_bytes 24 length_memory list after next at i (spaced what 0 1 i) (what i) (length_spaced what 0 1 i) inside before now)
 
 -- a descriptor whose type was stored
-pub kind_stored : (list after : List ℕ) (at address size auxiliary : ℕ) (kind : ℤ) → SFits w32 kind →
-    after ≡ written list at (memory_bytes (record { address = address; size = size; kind = to_z w32 (of_z w32 kind); auxiliary = auxiliary })) →
-    after ≡ written list at (memory_bytes (record { address = address; size = size; kind = kind; auxiliary = auxiliary }))
-kind_stored list after at address size auxiliary kind fits e =
+pub kind_stored : (list next : List ℕ) (at address size auxiliary : ℕ) (kind : ℤ) → SFits w32 kind →
+    next ≡ written list at (memory_bytes (record { address = address; size = size; kind = to_z w32 (of_z w32 kind); auxiliary = auxiliary })) →
+    next ≡ written list at (memory_bytes (record { address = address; size = size; kind = kind; auxiliary = auxiliary }))
+kind_stored list next at address size auxiliary kind fits e =
     e ∙ ap (λ (k : ℤ). written list at (memory_bytes (record { address = address; size = size; kind = k; auxiliary = auxiliary }))) (to_z-of_z {w = w32} {z = kind} fits)
 
 -- bytes written over others of the same number
@@ -202,24 +202,24 @@ module _ (header : Header) (cpus addresses sizes : List ℕ) (kinds : List ℤ) 
     unfolding given
     allowed = tested addresses sizes auxiliaries ∙ ap (λ (n : ℕ). types_allowed (spaced (memory_given addresses sizes kinds auxiliaries) 0 1 n)) counted
 
-    pub answers_type : not are_allowed ≡ true → record { answer = «Type»; buffer = buffer } ≡ writing contents buffer
+    pub answers_type : are_allowed ≡ false → record { answer = «Type»; buffer = buffer } ≡ writing contents buffer
     unfolding writing
-    answers_type f = rw (sym allowed ∙ not-true are_allowed f)
+    answers_type f = rw (sym allowed ∙ f)
 
-    module _ (t : not are_allowed ≡ false) where
+    module _ (t : are_allowed ≡ true) where
       pub answers_large : 65535 < 56 + 4 * (length cpus / 4) + 24 * memory_count_lem → record { answer = Large; buffer = buffer } ≡ writing contents buffer
       unfolding writing
-      answers_large large = rw (sym allowed ∙ not-false are_allowed t, lt-ltb 65535 (page_length contents) (omega (arith, given_length)))
+      answers_large large = rw (sym allowed ∙ t, lt-ltb 65535 (page_length contents) (omega (arith, given_length)))
 
       pub answers_room : 56 + 4 * (length cpus / 4) + 24 * memory_count_lem ≤ 65535 → length buffer < 56 + 4 * (length cpus / 4) + 24 * memory_count_lem →
           record { answer = Room; buffer = buffer } ≡ writing contents buffer
       unfolding writing
       answers_room small short =
-          rw (sym allowed ∙ not-false are_allowed t, le-ltb 65535 (page_length contents) (omega (arith, given_length)), lt-ltb (length buffer) (page_length contents) (omega (arith, given_length)))
+          rw (sym allowed ∙ t, le-ltb 65535 (page_length contents) (omega (arith, given_length)), lt-ltb (length buffer) (page_length contents) (omega (arith, given_length)))
 
       pub answers_done : (size : ℕ) (after_page : List ℕ) → 56 + 4 * (length cpus / 4) + 24 * memory_count_lem ≤ 65535 → 56 + 4 * (length cpus / 4) + 24 * memory_count_lem ≤ length buffer →
           size ≡ 56 + 4 * (length cpus / 4) + 24 * memory_count_lem → after_page ≡ written buffer 0 (page contents) → record { answer = Done size; buffer = after_page } ≡ writing contents buffer
       answers_done size after_page small room ez e =
           let long : size ≡ page_length contents = omega (arith, given_length) in
-          let good = written_good contents buffer (sym allowed ∙ not-false are_allowed t) (omega (arith, given_length)) (omega (arith, given_length)) in
+          let good = written_good contents buffer (sym allowed ∙ t) (omega (arith, given_length)) (omega (arith, given_length)) in
           rw (page_first after_page e, long) (sym good)

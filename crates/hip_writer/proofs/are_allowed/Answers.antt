@@ -1,14 +1,12 @@
 -- The types from the next one on decide the rest.
 use Rattle.endian.specs.Runs.{spaced}
 use Rattle.hip_writer.proofs.RunLaws.{kind_tested}
-use Prim.Native.Nat.{ℕ, ◌+◌, ◌-◌, ◌≤◌}
-use mathlib.Core.Path.{◌≡◌, refl, sym, ap, ◌∙◌}
-use mathlib.Core.List.{List}
+use Prim.Native.Nat.{ℕ, ◌+◌, ◌-◌}
+use mathlib.Core.Path.{◌≡◌, sym, ap, ◌∙◌}
 use native.Mathlib.Omega.{arith}
+use borrow.Author.Rules.{rules}
 use lib.IntN.{pos}
-use lib.ListN.{length, get_or}
-use borrow.Author.Tests.{not-true, not-false}
-use Rattle.hip_format.specs.Format.{type_allowed}
+use lib.ListN.{get_or}
 use Rattle.hip_format.specs.Reader.{types_allowed}
 use Rattle.hip_format.specs.Writer.{memory_given}
 use Rattle.hip_format.proofs.TypeLaws.{first_refused, first_allowed, none_left}
@@ -31,8 +29,8 @@ is_allowed-requires c = tt
 
 pub returns-then-not-is_allowed : goal.returns-then-not-is_allowed
 returns-then-not-is_allowed c = let turn = c.loop-i in
-    let asked = kind_tested (get_or c.args.kinds.now turn.i (pos 0)) _ _ (record { sfits = c.to_bits-arg-1.given }) c.to_bits.ensures c.is_allowed.ensures in
-    λ a s x. first_refused (memory_given a s c.args.kinds.now x) turn.i 1 (c.args.count - turn.i) _ (omega arith) asked (not-true _ c.if-not-is_allowed.true) ∙ sym (turn.invariant.2 a s x)
+    let asked = kind_tested (get_or c.args.kinds.now turn.i (pos 0)) _ _ (search rules) c.to_bits.ensures c.is_allowed.ensures in
+    λ a s x. first_refused (memory_given a s c.args.kinds.now x) turn.i 1 (c.args.count - turn.i) _ (omega arith) asked c.if-not-is_allowed.true ∙ sym (turn.invariant.2 a s x)
 
 pub overflow_add-i : goal.overflow_add-i
 overflow_add-i c = omega arith
@@ -42,13 +40,13 @@ loop-i-smaller c = omega arith
 
 pub loop-i-preserved : goal.loop-i-preserved
 loop-i-preserved c = let turn = c.loop-i in
-    let asked = kind_tested (get_or c.args.kinds.now turn.i (pos 0)) _ _ (record { sfits = c.to_bits-arg-1.given }) c.to_bits.ensures c.is_allowed.ensures in
+    let asked = kind_tested (get_or c.args.kinds.now turn.i (pos 0)) _ _ (search rules) c.to_bits.ensures c.is_allowed.ensures in
     let less : c.args.count - turn.i - 1 ≡ c.args.count - (turn.i + 1) = omega arith in (
       omega arith,
       turn.invariant.1,
       λ a s x.
           turn.invariant.2 a s x ∙
-          first_allowed (memory_given a s c.args.kinds.now x) turn.i 1 (c.args.count - turn.i) _ (omega arith) asked (not-false _ c.if-not-is_allowed.false) ∙
+          first_allowed (memory_given a s c.args.kinds.now x) turn.i 1 (c.args.count - turn.i) _ (omega arith) asked c.if-not-is_allowed.false ∙
           ap (λ (n : ℕ). types_allowed (spaced (memory_given a s c.args.kinds.now x) (turn.i + 1) 1 n)) less,
     )
 

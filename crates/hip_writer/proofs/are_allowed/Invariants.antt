@@ -1,17 +1,11 @@
 -- The types from the next one on decide the rest.
 use Rattle.endian.specs.Runs.{spaced}
-use Rattle.hip_writer.proofs.RunLaws.{kind_tested}
-use Prim.Native.Nat.{ℕ, ◌+◌, ◌-◌, ◌≤◌}
-use mathlib.Core.Path.{◌≡◌, refl, sym, ap, ◌∙◌}
+use Prim.Native.Nat.{ℕ, ◌-◌, ◌≤◌}
+use mathlib.Core.Path.{◌≡◌}
 use mathlib.Core.List.{List}
-use native.Mathlib.Omega.{arith}
-use lib.IntN.{pos}
-use lib.ListN.{length, get_or}
-use borrow.Author.Tests.{not-true, not-false}
-use Rattle.hip_format.specs.Format.{type_allowed}
+use lib.ListN.{length}
 use Rattle.hip_format.specs.Reader.{types_allowed}
 use Rattle.hip_format.specs.Writer.{memory_given}
-use Rattle.hip_format.proofs.TypeLaws.{first_refused, first_allowed, none_left}
 use Rattle.hip_writer.proofs.are_allowed.Given as goal
 
 abbrev pub invariant-loop-i : goal.invariant-loop-i

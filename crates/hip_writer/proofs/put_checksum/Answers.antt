@@ -4,7 +4,6 @@ use Prim.Native.Nat.{ℕ, ◌-◌, ◌%◌}
 use lib.Seq.{length-take-le}
 use Rattle.endian.specs.Parts.{written}
 use Rattle.endian.specs.Numbers.{bytes_of}
-use borrow.Author.Rules.{rules}
 use Rattle.hip_writer.proofs.put_checksum.Goals as goal
 
 pub slice_bounds-word_sum-end-2 : goal.slice_bounds-word_sum-end-2

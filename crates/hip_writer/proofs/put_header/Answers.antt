@@ -7,7 +7,6 @@ use Rattle.endian.specs.Numbers.{bytes_of}
 use Rattle.endian.specs.Runs.{bytes_of_each}
 use Rattle.hip_format.specs.Format.{signature, header_size, cpu_size, memory_size, fields}
 use Rattle.hip_writer.proofs.RunLaws.{header_written}
-use borrow.Author.Rules.{rules}
 use Rattle.hip_writer.proofs.put_header.Goals as goal
 
 pub returns : goal.returns

@@ -1,21 +1,19 @@
 -- The descriptors that the loop has passed are written.
-use Prim.Native.Nat.{ℕ, ◌+◌, ◌*◌, ◌-◌, ◌≤◌}
-use mathlib.Core.Path.{◌≡◌, refl, ap, ◌∙◌}
-use mathlib.Core.List.{List}
+use Prim.Native.Nat.{ℕ, ◌+◌, ◌*◌}
+use mathlib.Core.Path.{refl, ap, ◌∙◌}
 use native.Mathlib.Omega.{arith}
+use borrow.Author.Rules.{rules}
 use lib.IntN.{pos}
-use lib.ListN.{length, get_or}
-use mir.Facts.{to_z-of_z}
-use mir.Syntax.{w32}
+use lib.ListN.{get_or}
 use Rattle.endian.specs.Parts.{written}
 use Rattle.endian.specs.Runs.{bytes_of_each, spaced}
 use Rattle.hip_format.specs.Format.{memory_bytes}
-use Rattle.hip_format.specs.Writer.{memory_given, shortest}
+use Rattle.hip_format.specs.Writer.{memory_given}
 use Rattle.hip_writer.proofs.RunLaws.{no_memory_yet, memory_more, kind_stored}
 use Rattle.hip_writer.proofs.put_memories.Goals as goal
 
 pub loop-i-init : goal.loop-i-init
-loop-i-init c = (omega arith, c.requires.0, c.requires.1, refl, no_memory_yet c.args.buffer.now c.args.at (memory_given c.args.addresses.now c.args.sizes.now c.args.kinds.now c.args.auxiliaries.now))
+loop-i-init c = (omega arith, c.requires.count_in_bounds, c.requires.count_bound, refl, no_memory_yet c.args.buffer.now c.args.at (memory_given c.args.addresses.now c.args.sizes.now c.args.kinds.now c.args.auxiliaries.now))
 
 pub overflow_mul-i : goal.overflow_mul-i
 overflow_mul-i c = omega arith
@@ -59,7 +57,7 @@ loop-i-smaller c = omega arith
 pub loop-i-preserved : goal.loop-i-preserved
 loop-i-preserved c = let turn = c.loop-i in
     let stored = kind_stored turn.buffer _ (c.args.at + 24 * turn.i) (get_or c.args.addresses.now turn.i 0) (get_or c.args.sizes.now turn.i 0)
-    (get_or c.args.auxiliaries.now turn.i 0) (get_or c.args.kinds.now turn.i (pos 0)) (record { sfits = c.put_memory-arg-in-loop-i-1.given }) c.put_memory.ensures in (
+    (get_or c.args.auxiliaries.now turn.i 0) (get_or c.args.kinds.now turn.i (pos 0)) (search rules) c.put_memory.ensures in (
       omega arith,
       turn.invariant.1,
       turn.invariant.2,

@@ -1,17 +1,11 @@
 -- The descriptors that the loop has passed are written.
-use Prim.Native.Nat.{ℕ, ◌+◌, ◌*◌, ◌-◌, ◌≤◌}
-use mathlib.Core.Path.{◌≡◌, refl, ap, ◌∙◌}
-use mathlib.Core.List.{List}
-use native.Mathlib.Omega.{arith}
-use lib.IntN.{pos}
-use lib.ListN.{length, get_or}
-use mir.Facts.{to_z-of_z}
-use mir.Syntax.{w32}
+use Prim.Native.Nat.{◌+◌, ◌*◌, ◌-◌, ◌≤◌}
+use mathlib.Core.Path.{◌≡◌}
+use lib.ListN.{length}
 use Rattle.endian.specs.Parts.{written}
 use Rattle.endian.specs.Runs.{bytes_of_each, spaced}
 use Rattle.hip_format.specs.Format.{memory_bytes}
 use Rattle.hip_format.specs.Writer.{memory_given, shortest}
-use Rattle.hip_writer.proofs.RunLaws.{no_memory_yet, memory_more, kind_stored}
 use Rattle.hip_writer.proofs.put_memories.Given as goal
 
 abbrev pub invariant-loop-i : goal.invariant-loop-i

@@ -1,6 +1,5 @@
 -- The four numbers one after the other.
 use Rattle.hip_writer.proofs.RunLaws.{memory_written}
-use borrow.Author.Rules.{rules}
 use Rattle.hip_writer.proofs.put_memory.Goals as goal
 
 pub returns : goal.returns

@@ -20,4 +20,4 @@ pub returns-then-buffer-size : goal.returns-then-buffer-size
 returns-then-buffer-size c = search (answers_room, rules)
 
 pub returns : goal.returns
-returns c = answers_done c.args.header c.args.cpus.now c.args.addresses.now c.args.sizes.now c.args.kinds.now c.args.auxiliaries.now c.args.buffer.now c.count_of-memories.result c.count_of-memories.ensures _ c.are_allowed.ensures c.if-not-are_allowed.false _ _ (omega arith) (omega arith) c.put_page-done.ensures.0 c.put_page-done.ensures.1
+returns c = answers_done c.args.header c.args.cpus.now c.args.addresses.now c.args.sizes.now c.args.kinds.now c.args.auxiliaries.now c.args.buffer.now c.count_of-memories.result c.count_of-memories.ensures _ c.are_allowed.ensures c.if-not-are_allowed.false _ _ (omega arith) (omega arith) c.put_page-done.ensures.value c.put_page-done.ensures.buffer_after
