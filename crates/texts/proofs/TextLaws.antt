@@ -1,5 +1,5 @@
 -- Texts written one after the other are one text written.
-use Prim.Native.Nat.{ℕ, suc, ◌+◌, ◌-◌, ◌/◌, ◌%◌, ◌^◌, ◌≤◌, ◌<◌}
+use Prim.Native.Nat.{ℕ, zero, suc, ◌+◌, ◌-◌, ◌/◌, ◌%◌, ◌^◌, ◌≤◌, ◌<◌}
 use mathlib.Core.Path.{◌≡◌, refl, sym, ap, ◌∙◌, subst}
 use mathlib.Core.List.{List, [], ◌∷◌, ◌++◌}
 use native.Mathlib.Nat.{add_assoc, add-zero}
@@ -60,6 +60,7 @@ no_digit before at number count fits none = rw none (wrote_nothing before at fit
 
 pub wrote_digit : (before middle : List ℕ) (at next number count digit : ℕ) → at ≤ length before → next < length middle → 0 < count → digit ≡ hex_digit_ascii (number % 16) →
     Wrote before at (last_digits 16 (count - 1) (number / 16)) middle next → Wrote before at (last_digits 16 count number) (set middle next digit) (next + 1)
+wrote_digit before middle at next number zero digit fits room some e wrote = elim some [ ]
 wrote_digit before middle at next number (suc count) digit fits room some e wrote =
     let others : suc count - 1 ≡ count = omega arith in
     rw e (wrote_byte before middle (last_digits 16 count (number / 16)) at next (hex_digit_ascii (number % 16)) fits room (rw others at wrote))

@@ -1,5 +1,5 @@
 -- Each kind has the size that the definition gives it, and a kind that is none of them has none.
-use borrow.Author.Tests.{ne_eqb}
+use Rattle.std.proofs.Common.{rules, tests}
 use Rattle.interface.specs.Journal.{body_bytes}
 use Rattle.journal_records.proofs.body_bytes.Goals as goal
 
@@ -41,15 +41,4 @@ returns-in-11 c = rw c.in-11.is
 
 pub returns-in_default : goal.returns-in_default
 unfolding body_bytes
-returns-in_default c = let other = c.in-0.rest in
-    rw (
-      ne_eqb _ _ other.0.0.0.0.0.0.0.0.1,
-      ne_eqb _ _ other.0.0.0.0.0.0.0.1,
-      ne_eqb _ _ other.0.0.0.0.0.0.1,
-      ne_eqb _ _ other.0.0.0.0.0.1,
-      ne_eqb _ _ other.0.0.0.0.1,
-      ne_eqb _ _ other.0.0.0.1,
-      ne_eqb _ _ other.0.0.1,
-      ne_eqb _ _ other.0.1,
-      ne_eqb _ _ other.1,
-    )
+returns-in_default c = search (tests, rules)

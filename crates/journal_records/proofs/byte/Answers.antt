@@ -1,7 +1,6 @@
 -- A list has nothing past its end.
 use mathlib.Core.Path.{sym}
 use lib.ListN.{get_or-eq_default}
-use borrow.Author.Rules.{rules}
 use Rattle.journal_records.proofs.byte.Goals as goal
 
 pub returns : goal.returns

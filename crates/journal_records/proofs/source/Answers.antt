@@ -1,5 +1,4 @@
 -- The first block of a CALL begins after the portal selector.
-use borrow.Author.Rules.{rules}
 use Rattle.interface.specs.Journal.{recorded_call}
 use Rattle.journal_records.proofs.source.Goals as goal
 

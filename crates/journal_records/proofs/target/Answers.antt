@@ -1,5 +1,4 @@
 -- The second block of a CALL begins after the first.
-use borrow.Author.Rules.{rules}
 use Rattle.interface.specs.Journal.{recorded_call}
 use Rattle.journal_records.proofs.target.Goals as goal
 

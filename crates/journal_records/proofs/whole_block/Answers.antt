@@ -1,8 +1,8 @@
 -- The block begins with the words that the loop has passed.
-use Prim.Native.Nat.{◌+◌, ◌-◌, ◌≤◌}
+use Prim.Native.Nat.{◌+◌}
 use mathlib.Core.Path.{◌≡◌, refl}
 use native.Mathlib.Omega.{arith}
-use lib.ListN.{length, take, length-set}
+use lib.ListN.{length-set}
 use Rattle.words.specs.Sizes.{block_words}
 use Rattle.interface.specs.Basics.{listed}
 use Rattle.interface.specs.Journal.{body_word}

@@ -1,12 +1,10 @@
 -- The block begins with the words that the loop has passed.
 use Prim.Native.Nat.{◌+◌, ◌-◌, ◌≤◌}
-use mathlib.Core.Path.{◌≡◌, refl}
-use native.Mathlib.Omega.{arith}
-use lib.ListN.{length, take, length-set}
+use mathlib.Core.Path.{◌≡◌}
+use lib.ListN.{length, take}
 use Rattle.words.specs.Sizes.{block_words}
 use Rattle.interface.specs.Basics.{listed}
 use Rattle.interface.specs.Journal.{body_word}
-use Rattle.journal_records.proofs.BodyLaws.{word_at, listed_more, listed_all}
 use Rattle.journal_records.proofs.whole_block.Given as goal
 
 abbrev pub invariant-loop-i : goal.invariant-loop-i

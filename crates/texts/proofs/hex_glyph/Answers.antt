@@ -1,6 +1,5 @@
 -- A digit below ten is a numeral, and any other a letter from `a` on.
 use native.Mathlib.Omega.{arith}
-use borrow.Author.Rules.{rules}
 use borrow.Author.Tests.{lt-ltb, le-ltb}
 use Rattle.texts.proofs.hex_glyph.Goals as goal
 

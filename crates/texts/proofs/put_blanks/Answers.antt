@@ -1,10 +1,8 @@
 -- The buffer has a blank for each number that the loop has passed.
-use Prim.Native.Nat.{◌+◌, ◌-◌, ◌≤◌}
+use Prim.Native.Nat.{◌+◌, ◌-◌, ◌<◌}
 use mathlib.Core.Path.{◌≡◌, refl}
 use native.Mathlib.Omega.{arith}
-use lib.ListN.{length, replicate, length-set, length-replicate}
-use Rattle.interface.specs.Journal.{blank}
-use Rattle.texts.specs.Texts.{Wrote}
+use lib.ListN.{length, length-set}
 use Rattle.texts.proofs.TextLaws.{wrote_nothing, blank_more}
 use Rattle.texts.proofs.put_blanks.Goals as goal
 
@@ -35,13 +33,14 @@ pub loop-i-preserved : goal.loop-i-preserved
 loop-i-preserved c =
     let start = c.args in
     let turn = c.loop-i in
+    let room : turn.end < length turn.out = omega arith in
     let more : turn.i + 1 - start.from ≡ turn.i - start.from + 1 = omega arith in (
       omega arith,
       omega arith,
       simp length-set turn.invariant.2,
       simp length-set turn.invariant.3,
       omega arith,
-      rw more (blank_more start.out.now turn.out start.at turn.end (turn.i - start.from) (omega arith) (slice_write_out c) turn.invariant.5),
+      rw more (blank_more start.out.now turn.out start.at turn.end (turn.i - start.from) (omega arith) room turn.invariant.5),
     )
 
 pub shape_of-out : goal.shape_of-out

@@ -1,11 +1,9 @@
 -- The buffer has a blank for each number that the loop has passed.
 use Prim.Native.Nat.{◌+◌, ◌-◌, ◌≤◌}
-use mathlib.Core.Path.{◌≡◌, refl}
-use native.Mathlib.Omega.{arith}
-use lib.ListN.{length, replicate, length-set, length-replicate}
+use mathlib.Core.Path.{◌≡◌}
+use lib.ListN.{length, replicate}
 use Rattle.interface.specs.Journal.{blank}
 use Rattle.texts.specs.Texts.{Wrote}
-use Rattle.texts.proofs.TextLaws.{wrote_nothing, blank_more}
 use Rattle.texts.proofs.put_blanks.Given as goal
 
 abbrev pub invariant-loop-i : goal.invariant-loop-i
