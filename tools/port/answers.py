@@ -31,6 +31,19 @@ def items_of(text):
     return parts, held
 
 
+def helpers_joined(helpers):
+    """One text for each lemma: its comment, its signature and its clauses."""
+    out = []
+    for it in helpers:
+        m = re.match(r"(?:--[^\n]*\n)*(?:(?:abbrev|pub) )*(" + NAME + r") :", it)
+        name = re.match(r"(?:--[^\n]*\n)*(" + NAME + r")[\s]", it)
+        if out and not m and (it.startswith("unfolding") or name):
+            out[-1] += it
+        else:
+            out.append(it)
+    return out
+
+
 class Function:
     def __init__(self, crate, folder, facts, said):
         self.crate, self.folder, self.facts, self.said = crate, folder, facts, said
@@ -47,9 +60,107 @@ class Function:
             if arm:
                 for field, old, path in arm[2]:
                     self.arms.append((arm[0], field, norm(old), [norm(p) for p in path]))
-        self.needs = {}
-        for old, new in facts["needs"]:
+        self.needs, self.asked = {}, {}
+        for (old, new), (place, _) in zip(facts["needs"], facts["asked_at"]):
             self.needs[norm(old)] = new
+            self.asked[new] = norm(place)
+        self.parent = {norm(p[0]): p[1] and norm(p[1]) for p in facts["places"]}
+        self.place = {norm(p[0]): new for p, new in zip(facts["places"], facts["places_by_name"])}
+        self.imports, self.lemmas, self.here = set(), {}, ""
+
+    def type_of(self, name):
+        """Today's name of the record of a place."""
+        new = self.place.get(norm(name))
+        if not new:
+            self.say(f"no place {name}")
+            return name
+        self.imports.add(new)
+        return new
+
+    def helper(self, text):
+        """A lemma over the records of places: its paths are flat, and a place handed on keeps its way."""
+        comment = re.match(r"(?:--[^\n]*\n)*", text)[0]
+        text = text[len(comment):]
+        sig = re.match(r"(?:abbrev )?(?:pub )?(" + NAME + r") :((?:.|\n)*?)(?=\n\S)", text)
+        if not sig or "tie." not in text:
+            return comment + text
+        kinds, depth, part, parts = [], 0, "", []
+        for token in re.findall(r"[({]|[)}]|→|[^(){}→]+", sig[2]):
+            depth += (token in "({") - (token in ")}")
+            if token == "→" and depth == 0:
+                parts.append(part)
+                part = ""
+            else:
+                part += token
+        names = set()
+        for it in parts:
+            it = it.strip()
+            explicit = not it.startswith("{")
+            m = re.match(r"\(((?:" + NAME + r" )+): tie\.(" + NAME + r")\)\s*$", it)
+            if m:
+                names.update(m[1].split())
+                kinds += [m[2]] * len(m[1].split())
+            elif re.match(r"tie\.(" + NAME + r")\s*$", it):
+                kinds.append(it[4:])
+            elif explicit:
+                m = re.match(r"\(((?:" + NAME + r" )+):", it)
+                n = 0
+                for group in re.findall(r"\(((?:" + NAME + r" )+):", it) if m else [""]:
+                    n += max(1, len(group.split()))
+                kinds += [None] * max(1, n)
+        for clause in re.findall(r"(?m)^" + re.escape(sig[1]) + r"((?: [^=\n]*?)?) =(?=\s)", text):
+            args = re.findall(r"\{[^}]*\}|\([^)]*\)|" + NAME, clause)
+            args = [a for a in args if not a.startswith("{")]
+            names.update(a for a, k in zip(args, kinds) if k)
+        text = re.sub(r"\btie\.(" + NAME + r")", lambda m: self.type_of(m[1]), text)
+        self.lemmas[sig[1]] = kinds
+        self.here = norm(next((k for k in kinds if k), ""))
+        return comment + self.flat(text, {n: n for n in names}, None)
+
+    def flat(self, text, ways, goal):
+        """Turns the paths that begin at places. `ways` has the way to each place by name; `goal` is the goal's new name, or None in a lemma."""
+        while True:
+            m = None
+            for it in re.finditer(r"let (" + NAME + r") = (" + NAME + r")((?:\.before)+) in\s*", text):
+                if it[2] in ways:
+                    m = it
+                    break
+            if not m:
+                break
+            ways[m[1]] = ways[m[2]] + m[3]
+            text = text[: m.start()] + text[m.end():]
+        roots = {w.split(".")[0] for w in ways.values()}
+
+        def bare(lemma, name):
+            """A place handed to a lemma, by the place that the lemma asks for."""
+            kind = next((k for k in self.lemmas.get(lemma, []) if k), None)
+            if not kind:
+                self.say(f"the place {name} is handed to {lemma}")
+                return f"{lemma} {name}"
+            if goal is None:
+                at, befores = self.here, 0
+                while at and at != norm(kind):
+                    at, befores = self.parent.get(at), befores + 1
+                if not at:
+                    self.say(f"no way from {self.here} to {kind}")
+                return f"{lemma} {name}" + ".before" * befores
+            return f"{lemma} (goal.at.{goal} c).{self.place.get(norm(kind), kind)}"
+
+        def one(m):
+            name, fields = m[1], (m[2] or "")[1:].split(".") if m[2] else []
+            if name not in ways:
+                return m[0]
+            befores = 0
+            while befores < len(fields) and fields[befores] == "before":
+                befores += 1
+            if befores == len(fields):
+                return f"⟦{ways[name].split('.')[0]}⟧"
+            root = ways[name].split(".")[0]
+            path = self.path(fields[befores:])
+            return root + path[1:]
+        text = re.sub(r"(?<![^\s(){};,@\[\]])(?<!\.)(" + NAME + r")((?:\.(?:" + NAME + r"))+)?(?![^\s(){};,@\[\].])", one, text)
+        text = re.sub(r"(" + NAME + r") ⟦(\S*?)⟧", lambda m: f"{m[1]} {m[2]}" if m[1] == ":" else bare(m[1], m[2]), text)
+        return re.sub(r"⟦(\S*?)⟧", r"\g<1>", text)
 
     def say(self, text):
         self.said.append(f"{self.where}: {text}")
@@ -86,33 +197,10 @@ class Function:
         self.say(f"no step {fields[0]} in {'.'.join(fields)}")
         return "c." + ".".join(fields)
 
-    def answer(self, text):
-        """Turns the paths of an answer's right side."""
-        places = {"c"}
-        while True:
-            m = None
-            for it in re.finditer(r"let (" + NAME + r") = (" + NAME + r")((?:\.before)+) in\s*", text):
-                if it[2] in places:
-                    m = it
-                    break
-            if not m:
-                break
-            places.add(m[1])
-            text = text[: m.start()] + text[m.end():]
-        def one(m):
-            if m[1] not in places:
-                return m[0]
-            return self.path(m[2][1:].split(".")) or m[0]
-        text = re.sub(r"(?<![^\s(){}.;,@\[\]])(?<!\.)(" + NAME + r")((?:\.(?:" + NAME + r"))+)", one, text)
-        for it in places - {"c"}:
-            if re.search(r"(?<![^\s(){};,@\[\]])(?<!\.)" + re.escape(it) + r"(?![^\s(){};,@\[\]])", text):
-                self.say(f"the place {it} stands alone")
-        return text
-
     def turn(self, text, before):
         parts, end = items_of(text)
         old_goals = dict()
-        sig = re.compile(r"^(?:abbrev )?(?:pub )?(" + NAME + r") : tie\.(" + NAME + r")")
+        sig = re.compile(r"^(?:abbrev )?(?:pub )?(" + NAME + r") : tie\.((?:Need|invariant|decreases)" + NAME + r")")
         old_sigs = [m[2] for _, b in items_of(before)[0] if (m := sig.match(b))]
         new_sigs = [m[2] for _, b in parts if (m := sig.match(b))]
         paired = dict(zip(range(len(new_sigs)), old_sigs)) if len(old_sigs) == len(new_sigs) else {}
@@ -189,13 +277,15 @@ class Function:
                     body = re.sub(r"(?<![^\s(){};,@\[\]])(?<!\.)" + re.escape(p) + r"(?![^\s(){}.;,@\[\]])(?! [=:] )", lambda _: w.replace("l.", "\0."), body)
             body = body.replace("\0.", "l.")
             out_i.append(comment + f"abbrev pub {kind}-{new} : goal.{kind}-{new}\n{kind}-{new} l ={body.rstrip()}\n\n")
+        helpers = [self.helper(h) for h in helpers_joined(helpers)]
         for new, comment, middle, clauses, name in answers:
             text = "".join(clauses)
             if re.fullmatch(re.escape(name) + r" c( κs)? =\s*search rules\s*", text) and not middle:
                 continue
             text = text.replace(name, new, 1) if len(clauses) == 1 else re.sub(r"(?m)^" + re.escape(name) + r"(?=\s)", new, text)
             text = re.sub(r"^(" + re.escape(new) + r" c) κs(?= )", r"\1", text)
-            text = self.answer(text)
+            head, eq, body = text.partition(" =")
+            text = head + eq + self.flat(body, {"c": "c"}, new)
             text = re.sub(r"(\bc\.(?:if|loop|in)[\w.-]*?)\.taken\b", r"\1.true", text)
             text = re.sub(r"(\bc\.(?:if|loop|in)[\w.-]*?)\.left\b", r"\1.false", text)
             out_a.append(comment + f"pub {new} : goal.{new}\n" + middle + text.rstrip() + "\n\n")
@@ -204,7 +294,8 @@ class Function:
         if out_i:
             files["Invariants.antt"] = head + "".join(uses) + f"use {here}.Given as goal\n\n" + "".join(out_i)
         if out_a or helpers:
-            files["Answers.antt"] = head + "".join(uses) + f"use {here}.Goals as goal\n\n" + "".join(helpers) + "".join(out_a) + end
+            more = f"use {here}.Goals.{{{', '.join(sorted(self.imports))}}}\n" if self.imports else ""
+            files["Answers.antt"] = head + "".join(uses) + f"use {here}.Goals as goal\n" + more + "\n" + "".join(helpers) + "".join(out_a) + end
         return {k: v.rstrip() + "\n" for k, v in files.items()}
 
 

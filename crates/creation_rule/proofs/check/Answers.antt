@@ -1,5 +1,4 @@
--- Each way out of the checks is a law's, by the tests on the way.
-use mathlib.Core.Bool.{not}
+returns cuse mathlib.Core.Bool.{not}
 use mathlib.Core.Path.{ap}
 use borrow.Author.Rules.{rules}
 use Rattle.interface.specs.Places.{view}
@@ -7,23 +6,22 @@ use Rattle.interface.specs.Creations.{free_record}
 use Rattle.creation_rule.specs.CreationRule.{Says}
 use Rattle.creation_rule.proofs.CheckLaws.{own_checks, last_check, new_live, not_by_pd, goes_on, not_bindable, not_on_cpu, not_good, goes_last, no_record, no_domain, has_room}
 use Rattle.creation_rule.proofs.check.Goals as goal
+use Rattle.creation_rule.proofs.check.Goals.{Else-not-is_permitted, Else-not-new-3}
 
 -- past both capabilities the rule goes on to its own checks
-past_pd : (c : tie.Else2) →
-    let args = c.before.before.before.before.before.before.before.before.before.before.args in
+past_pd : (c : Else-not-is_permitted) →
+    let args = c.args in
     let s = view args.places.now args.objects.now in
     Says s args.domain args.selector args.pd args.new (own_checks s args.domain args.selector args.new)
 past_pd c = search (goes_on, rules)
 
 -- past these it goes on to the last
-past_own : (c : tie.Else5) →
-    let args = c.before.before.before.before.before.before.before.before.before.before.before.before.before.before.before.before.args in
+past_own : (c : Else-not-new-3) →
+    let args = c.args in
     let s = view args.places.now args.objects.now in
     Says s args.domain args.selector args.pd args.new (last_check s args.domain args.selector args.new)
 past_own c =
-    let placed = c.before.before in
-    let bound = placed.before.before in
-    goes_last (past_pd bound.before.before) bound.if3.false placed.if4.false c.if5.false
+    goes_last (past_pd c.before.before.before.before.before.before) (ap not c.if-not-new.false) (ap not c.if-not-new-2.false) (ap not c.if-not-new-3.false)
 
 pub returns-then-is_live : goal.returns-then-is_live
 returns-then-is_live c = search (new_live, rules)
@@ -32,14 +30,14 @@ pub returns-then-not-is_permitted : goal.returns-then-not-is_permitted
 returns-then-not-is_permitted c = search (not_by_pd, rules)
 
 pub returns-then-not-new : goal.returns-then-not-new
-returns-then-not-new c = not_bindable (past_pd c.before.before) (ap not c.if-not-new.true)
+returns-then-not-new c = not_bindable (past_pd (goal.at.returns-then-not-new c).Else-not-is_permitted) (ap not c.if-not-new.true)
 
 pub returns-then-not-new-2 : goal.returns-then-not-new-2
-returns-then-not-new-2 c = not_on_cpu (past_pd c.before.before.before.before) (ap not c.if-not-new.false) (ap not c.if-not-new-2.true)
+returns-then-not-new-2 c = not_on_cpu (past_pd (goal.at.returns-then-not-new-2 c).Else-not-is_permitted) (ap not c.if-not-new.false) (ap not c.if-not-new-2.true)
 
 pub returns-then-not-new-3 : goal.returns-then-not-new-3
 returns-then-not-new-3 c =
-    not_good (past_pd bound.before.before) (ap not c.if-not-new.false) (ap not c.if-not-new-2.false) (ap not c.if-not-new-3.true)
+    not_good (past_pd (goal.at.returns-then-not-new-3 c).Else-not-is_permitted) (ap not c.if-not-new.false) (ap not c.if-not-new-2.false) (ap not c.if-not-new-3.true)
 
 pub free_record-requires : goal.free_record-requires
 free_record-requires c =
@@ -47,14 +45,14 @@ free_record-requires c =
 
 pub returns-in_default : goal.returns-in_default
 unfolding free_record
-returns-in_default c = no_record (past_own found.before) c.free_record.ensures c.in_default.is
+returns-in_default c = no_record (past_own (goal.at.returns-in_default c).Else-not-new-3) c.free_record.ensures c.in_default.is
 
 pub returns-then-not-new-4 : goal.returns-then-not-new-4
 unfolding free_record
 returns-then-not-new-4 c =
-    no_domain (past_own found.before) c.free_record.ensures c.in-Numbered.is (ap not c.if-not-new-4.true)
+    no_domain (past_own (goal.at.returns-then-not-new-4 c).Else-not-new-3) c.free_record.ensures c.in-Numbered.is (ap not c.if-not-new-4.true)
 
 pub returns : goal.returns
 unfolding free_record
 returns c =
-    has_room (past_own found.before) c.free_record.ensures c.in-Numbered.is (ap not c.if-not-new-3.false) (ap not c.if-not-new-4.false)
+    has_room (past_own (goal.at.returns c).Else-not-new-3) c.free_record.ensures c.in-Numbered.is (ap not c.if-not-new-3.false) (ap not c.if-not-new-4.false)

@@ -1,5 +1,4 @@
--- The places before the loop's offset are handed on.
-use Prim.Native.Nat.{◌-◌, ◌^◌, ◌≤◌, ◌<◌}
+returns cuse Prim.Native.Nat.{◌-◌, ◌^◌, ◌≤◌, ◌<◌}
 use mathlib.Core.Path.{◌≡◌}
 use native.Mathlib.Omega.{arith}
 use borrow.Author.Rules.{rules}
@@ -11,9 +10,10 @@ use Rattle.places.specs.Table.{Sized}
 use Rattle.creation_rule.specs.CreationRule.{Hands}
 use Rattle.creation_rule.proofs.InitialLaws.{hands_none, hands_more}
 use Rattle.creation_rule.proofs.hand_on.Goals as goal
+use Rattle.creation_rule.proofs.hand_on.Goals.{After-at-selector}
 
 -- the loop's selector is one of the object space
-selector_small : (c : tie.After-at invariant-loop decreases-loop) → c.at.result.0 < selectors object
+selector_small : (c : After-at-selector invariant-loop decreases-loop) → c.at.result.0 < selectors object
 selector_small c = rw c.before.before.before.before.before.before.requires.4 at c.at.ensures.1
 
 pub size-size-requires : goal.size-size-requires
@@ -27,10 +27,10 @@ pub of-destination-requires : goal.of-destination-requires
 of-destination-requires c = search (selector_small c, rules)
 
 pub of-source-requires : goal.of-source-requires
-of-source-requires c = search (selector_small c.before, rules)
+of-source-requires c = search (selector_small c, rules)
 
 pub give-requires : goal.give-requires
-give-requires c = search (selector_small c.before.before.before.before, rules)
+give-requires c = search (selector_small c, rules)
 
 pub overflow_add-offset : goal.overflow_add-offset
 overflow_add-offset c = omega arith
@@ -41,7 +41,7 @@ loop-offset-preserved c =
       omega arith,
       c.loop-offset.invariant.1,
       search rules,
-      hands_more c.args.from c.args.to range.base range.mask c.loop-offset.offset c.loop-offset.invariant.2 (omega (arith, selector_small selected))
+      hands_more c.args.from c.args.to range.base range.mask c.loop-offset.offset c.loop-offset.invariant.2 (omega (arith, selector_small c))
           c.at-selector.ensures.0 c.of-destination.ensures
           c.of-source.ensures c.mask.ensures c.loop-offset.invariant.3 c.give.ensures,
     )

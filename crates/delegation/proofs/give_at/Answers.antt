@@ -1,31 +1,31 @@
--- The places are those of the ranges' offsets.
-use Prim.Native.Nat.{◌<◌}
+returns cuse Prim.Native.Nat.{◌<◌}
 use native.Mathlib.Omega.{arith}
 use borrow.Author.Rules.{rules}
 use Rattle.words.specs.Sizes.{spaces, selectors}
 use Rattle.windows.proofs.WindowLaws.{made_small}
 use Rattle.delegation.proofs.DelegateLaws.{given_places}
 use Rattle.delegation.proofs.give_at.Goals as goal
+use Rattle.delegation.proofs.give_at.Goals.{After-at, After-at-2}
 
 -- the selectors are of the item's space
-at_small : (c : tie.After-at) → c.at.result.0 < selectors c.before.space.result
-at_small c = rw c.before.space.ensures c.at.ensures.1
+at_small : (c : After-at) → c.at.result.0 < selectors c.space-space.result
+at_small c = rw c.space-space.ensures c.at.ensures.1
 
-into_small : (c : tie.After-at2) → c.at2.result.0 < selectors c.before.before.before.space.result
-into_small c = rw (c.before.before.before.space.ensures, c.before.before.before.before.before.requires.3.same_space) c.at2.ensures.1
+into_small : (c : After-at-2) → c.at-2.result.0 < selectors c.space-space.result
+into_small c = rw (c.space-space.ensures, c.requires.3.same_space) c.at-2.ensures.1
 
 pub of-source-requires : goal.of-source-requires
-of-source-requires c = search (at_small c, rules)
+of-source-requires c = search (at_small (goal.at.of-source-requires c).After-at, rules)
 
 pub of-destination-requires : goal.of-destination-requires
-of-destination-requires c = search (into_small c, rules)
+of-destination-requires c = search (into_small (goal.at.of-destination-requires c).After-at-2, rules)
 
 pub give-requires : goal.give-requires
 give-requires c = let small : c.space-space.result < spaces = omega arith in (
-  c.requires.0,
-  made_small _ _ _ _ c.requires.2 small (into_small made.before) c.of-destination.ensures,
-  made_small _ _ _ _ c.requires.1 small (at_small source.before) c.of-source.ensures,
-)
+      c.requires.0,
+      made_small _ _ _ _ c.requires.2 small (into_small (goal.at.give-requires c).After-at-2) c.of-destination.ensures,
+      made_small _ _ _ _ c.requires.1 small (at_small (goal.at.give-requires c).After-at) c.of-source.ensures,
+    )
 
 pub returns : goal.returns
 returns c = given_places c.args.from c.args.to c.args.item c.args.window c.args.at c.args.into c.give.ensures

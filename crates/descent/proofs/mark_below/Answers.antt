@@ -1,5 +1,4 @@
--- The places of the domains before the loop's are marked; in each, those of other spaces are passed over.
-use Prim.Native.Nat.{◌+◌, ◌-◌, ◌*◌, ◌≤◌}
+returns cuse Prim.Native.Nat.{◌+◌, ◌-◌, ◌*◌, ◌≤◌}
 use mathlib.Core.Path.{◌≡◌, ap, ◌∙◌}
 use native.Mathlib.Omega.{arith}
 use lib.Pow.{pow_pos}
@@ -10,9 +9,10 @@ use Rattle.descent.proofs.MarkLaws.{begun, passed, all_told, not_before, not_aft
 use Rattle.descent.proofs.UnmarkedLaws.{not_below}
 use borrow.Author.Rules.{rules}
 use Rattle.descent.proofs.mark_below.Goals as goal
+use Rattle.descent.proofs.mark_below.Goals.{After-after-from}
 
 -- where the places of the range's space begin in the loop's domain, and how many they are
-there : (after : tie.After-after invariant-loop decreases-loop) →
+there : (after : After-after-from invariant-loop decreases-loop) →
     let loop = after.before.before.before in
     let space = space_of loop.before.before.before.before.before.before.args.first.0 in
     (after.after.result.0 ≡ loop.loop.domain * stride + start space) × (loop.before.before.selectors.result ≡ selectors space)
@@ -28,10 +28,11 @@ pub space_start-start-requires : goal.space_start-start-requires
 space_start-start-requires c = rw c.space-space.ensures (space_small _)
 
 pub loop-domain-init : goal.loop-domain-init
-loop-domain-init c = (
-  omega arith,
-  begun c.requires.0.0 c.requires.0.1 c.requires.0.2.ends c.blank-known.ensures.0 c.requires.1.0 c.blank-known.ensures.1 c.requires.1.1,
-)
+loop-domain-init c =
+    (
+      omega arith,
+      begun c.requires.0.0 c.requires.0.1 c.requires.0.2.ends c.blank-known.ensures.0 c.requires.1.0 c.blank-known.ensures.1 c.requires.1.1,
+    )
 
 pub after-from-requires : goal.after-from-requires
 after-from-requires c =
@@ -46,7 +47,7 @@ after-from-requires c =
 
 pub mark_run-requires : goal.mark_run-requires
 mark_run-requires c =
-    let (begins, many) = there c.before.before in
+    let (begins, many) = there c in
     let from = c.args.first.0 in
     let fits = start_rises (space_of from) _ (space_small from) in (
       passed c.loop-domain.invariant.1 _ (omega (arith, begins))
@@ -59,7 +60,7 @@ mark_run-requires c =
 
 pub loop-domain-preserved : goal.loop-domain-preserved
 loop-domain-preserved c =
-    let (begins, many) = there c.before.before.before in
+    let (begins, many) = there c in
     let from = c.args.first.0 in (
       omega arith,
       passed c.mark_run.ensures _ (omega (arith, begins, many, start_rises (space_of from) _ (space_small from)))

@@ -1,5 +1,5 @@
--- The census of damaged tables is refused, and that of sound ones is the tree's.
-use mathlib.Core.Path.{◌≡◌, sym, ◌∙◌, ap}
+returns cuse mathlib.Core.Path.{ap}
+use mathlib.Core.Path.{◌≡◌, sym, ◌∙◌}
 use mathlib.Core.Bool.{true, not}
 use borrow.Author.Tests.{not-true, not-false}
 use Rattle.interface.specs.Places.{tables}
@@ -7,18 +7,19 @@ use Rattle.interface.specs.Damage.{sound}
 use Rattle.kernel.proofs.FaceLaws.{showing_heirs, census_refused, census_counted, census_lengths, census_links}
 use borrow.Author.Rules.{rules}
 use Rattle.kernel.proofs.census.Goals as goal
+use Rattle.kernel.proofs.census.Goals.{Else-not-is_sound}
 
 -- the tables are sound
-undamaged : (c : tie.Else1) →
-    let given = c.before.before.before.before.before.args in
+undamaged : (c : Else-not-is_sound) →
+    let given = c.args in
     sound (tables given.places.now given.objects.now) ≡ true
-undamaged c = sym c.before.is_sound.ensures ∙ not-false _ c.if1.false
+undamaged c = sym c.is_sound.ensures ∙ not-false _ (ap not c.if-not-is_sound.false)
 
 pub returns-then-not-is_sound : goal.returns-then-not-is_sound
 returns-then-not-is_sound c = showing_heirs _ _ _ _ (census_refused _ _ _ _ (sym c.is_sound.ensures ∙ not-true _ (ap not c.if-not-is_sound.true)))
 
 pub census-requires : goal.census-requires
-census-requires c = let t = undamaged c.before in (census_lengths _ _ t, census_links _ _ t)
+census-requires c = let t = undamaged (goal.at.census-requires c).Else-not-is_sound in (census_lengths _ _ t, census_links _ _ t)
 
 pub returns : goal.returns
-returns c = showing_heirs _ _ _ _ (census_counted _ _ _ _ (undamaged c.before.before.before.before) _ c.census.ensures)
+returns c = showing_heirs _ _ _ _ (census_counted _ _ _ _ (undamaged (goal.at.returns c).Else-not-is_sound) _ c.census.ensures)

@@ -1,13 +1,13 @@
--- Sound tables are served, and damaged ones refused.
-use mathlib.Core.Path.{sym, ◌∙◌}
+returns cuse mathlib.Core.Path.{sym, ◌∙◌}
 use borrow.Author.Rules.{rules}
 use Rattle.interface.specs.Verdicts.{Call}
 use Rattle.interface.specs.Outcomes.{call_of}
 use Rattle.kernel.proofs.FaceLaws.{going_on, damaged_outcome}
 use Rattle.kernel.proofs.hypercall.Goals as goal
+use Rattle.kernel.proofs.hypercall.Goals.{Start}
 
 -- the call that the arguments make
-abbrev call_by : tie.Start → Call
+abbrev call_by : Start → Call
 call_by c =
     let given = c.args in
     call_of given.number given.caller given.first given.second given.third given.fourth given.fifth given.sixth given.source.now
@@ -21,5 +21,5 @@ returns-then-is_sound c = going_on _ _ _ c.serve.ensures.0
 
 pub returns : goal.returns
 returns c =
-    let by = call_by c.before.before.before.before.before.before.before.before in
+    let by = call_by (goal.at.returns c).Start in
     going_on _ by _ (damaged_outcome _ _ by (sym c.is_sound.ensures ∙ c.if-is_sound.false))

@@ -1,5 +1,4 @@
--- Nothing is found where nothing is held, and else the largest range around the base.
-use mathlib.Core.Bool.{not}
+returns cuse mathlib.Core.Bool.{not}
 use Prim.Native.Nat.{◌+◌, ◌%◌, ◌≤◌, ◌<◌}
 use mathlib.Core.Path.{◌≡◌, refl, sym, ◌∙◌, ap}
 use native.Mathlib.Nat.{add-zero}
@@ -14,9 +13,10 @@ use Rattle.words.proofs.SizeLaws.{greatest_small}
 use Rattle.interface.specs.Places.{Cap, cap_at}
 use Rattle.lookup.proofs.AnswerLaws.{Base, nothing_found, base_small, space_ends, around_proper, range_found}
 use Rattle.lookup.proofs.found.Goals as goal
+use Rattle.lookup.proofs.found.Goals.{After-greatest_order, After-largest_order-order, After-load-cap, After-of-first, After-wrapped-base}
 
 -- the base, and what its place holds
-base_of : (c : tie.After-of) {cap : Cap} →
+base_of : (c : After-of-first) {cap : Cap} →
     let given = c.before.before.before.before.before.before.args in
     cap ≡ cap_at given.places.now (c.of.result.0 + c.before.before.number.result) →
     Base given.places.now given.domain given.range c.of.result.0 c.before.before.number.result cap
@@ -30,30 +30,29 @@ base_of c is_cap =
       is_cap = is_cap;
     }
 
-is_base : (c : tie.After-load) →
-    let given = c.before.before.before.before.before.before.before.before.args in
-    Base given.places.now given.domain given.range c.before.before.of.result.0 c.before.before.before.before.number.result c.load.result
-is_base c = base_of c.before.before (rw c.before.after.ensures at c.load.ensures)
+is_base : (c : After-load-cap) →
+    let given = c.args in
+    Base given.places.now given.domain given.range c.of-first.result.0 c.number-selector.result c.load-cap.result
+is_base c = base_of c (rw c.after.ensures at c.load-cap.ensures)
 
 -- the base's place is a place
-base_inside : (c : tie.After-of) → c.of.result.0 + c.before.before.number.result < placeCount
+base_inside : (c : After-of-first) → c.of-first.result.0 + c.number-selector.result < placeCount
 base_inside c =
     let base = base_of c refl in
-    omega (arith, base_small base, space_ends base c.before.before.before.before.before.before.requires.1)
+    omega (arith, base_small base, space_ends base c.requires.1)
 
 -- the greatest order is that of the base's space
-greatest_is : (c : tie.After-greatest-order) → c.greatest-order.result ≡ greatest_order c.before.before.before.before.before.before.before.before.before.before.before.args.range.space
-greatest_is c = rw c.before.before.before.before.before.before.before.before.before.space.ensures at c.greatest-order.ensures
+greatest_is : (c : After-greatest_order) → c.greatest_order.result ≡ greatest_order c.args.range.space
+greatest_is c = rw c.space-space.ensures at c.greatest_order.ensures
 
 -- the lowest selector of the range
-low_is : (c : tie.After-wrapped2) →
-    let ordered = c.before.before in
-    c.wrapped2.result.0 ≡ rounded ordered.largest-order.result ordered.before.before.before.before.before.before.before.before.number.result % selectors object
-low_is c = rw c.before.round-down.ensures at c.wrapped2.ensures
+low_is : (c : After-wrapped-base) →
+    c.wrapped-base.result.0 ≡ rounded c.largest_order-order.result c.number-selector.result % selectors object
+low_is c = rw c.round_down.ensures at c.wrapped-base.ensures
 
-order_small : (c : tie.After-largest-order) →
-    c.largest-order.result ≤ greatest_order c.before.before.before.before.before.before.before.before.before.before.before.before.args.range.space
-order_small c = rw (greatest_is c.before) at c.largest-order.ensures.1
+order_small : (c : After-largest_order-order) →
+    c.largest_order-order.result ≤ greatest_order c.args.range.space
+order_small c = rw (greatest_is c.before) at c.largest_order-order.ensures.1
 
 pub at-requires : goal.at-requires
 at-requires c = (c.requires.2, pow_pos c.args.range.order)
@@ -64,34 +63,34 @@ of-first-requires c =
     (c.requires.1, rw space.ensures c.requires.2.space_small, rw c.wrapped.ensures (pow_pos (greatest_order space.result)))
 
 pub after-requires : goal.after-requires
-after-requires c = base_inside c
+after-requires c = base_inside (goal.at.after-requires c).After-of-first
 
 pub load-cap-requires : goal.load-cap-requires
-load-cap-requires c = search (base_inside c.before, rules)
+load-cap-requires c = search (base_inside (goal.at.load-cap-requires c).After-of-first, rules)
 
 pub returns-then-not-is_live : goal.returns-then-not-is_live
 returns-then-not-is_live c objects = c.word.ensures ∙
-    nothing_found (is_base c.before.before.before) (sym c.is_live.ensures ∙ not-true _ (ap not c.if-not-is_live.true)) objects
+    nothing_found (is_base (goal.at.returns-then-not-is_live c).After-load-cap) (sym c.is_live.ensures ∙ not-true _ (ap not c.if-not-is_live.true)) objects
 
 pub largest_order-order-requires : goal.largest_order-order-requires
 largest_order-order-requires c =
-    let base = is_base loaded in (
+    let base = is_base (goal.at.largest_order-order-requires c).After-load-cap in (
       c.requires.0,
-      omega (arith, greatest_is c, greatest_small c.args.range.space),
-      rw (greatest_is c) (base_small base),
-      rw (greatest_is c) (space_ends base c.requires.1),
+      omega (arith, greatest_is (goal.at.largest_order-order-requires c).After-greatest_order, greatest_small c.args.range.space),
+      rw (greatest_is (goal.at.largest_order-order-requires c).After-greatest_order) (base_small base),
+      rw (greatest_is (goal.at.largest_order-order-requires c).After-greatest_order) (space_ends base c.requires.1),
     )
 
 pub round_down-requires : goal.round_down-requires
 round_down-requires c =
-    omega (arith, c.largest_order-order.ensures.1, greatest_is c.before, greatest_small c.args.range.space)
+    omega (arith, c.largest_order-order.ensures.1, greatest_is (goal.at.round_down-requires c).After-greatest_order, greatest_small c.args.range.space)
 
 pub of-requires : goal.of-requires
 of-requires c =
-    let mask_small = c.requires.3 _ (base_inside placed) in
-    around_proper (is_base loaded) (order_small ordered) (low_is c) c.space-space.ensures (rw (is_base loaded).is_cap mask_small)
+    let mask_small = c.requires.3 _ (base_inside (goal.at.of-requires c).After-of-first) in
+    around_proper (is_base (goal.at.of-requires c).After-load-cap) (order_small (goal.at.of-requires c).After-largest_order-order) (low_is (goal.at.of-requires c).After-wrapped-base) c.space-space.ensures (rw (is_base (goal.at.of-requires c).After-load-cap).is_cap mask_small)
 
 pub returns : goal.returns
 returns c =
-    range_found (is_base loaded) (order_small ordered) (low_is wrapped) (sym c.is_live.ensures ∙ not-false _ (ap not c.if-not-is_live.false))
-    (rw (greatest_is ordered.before) at c.largest_order-order.ensures.0) c.space-space.ensures (c.word-2.ensures ∙ c.of.ensures)
+    range_found (is_base (goal.at.returns c).After-load-cap) (order_small (goal.at.returns c).After-largest_order-order) (low_is (goal.at.returns c).After-wrapped-base) (sym c.is_live.ensures ∙ not-false _ (ap not c.if-not-is_live.false))
+    (rw (greatest_is (goal.at.returns c).After-greatest_order) at c.largest_order-order.ensures.0) c.space-space.ensures (c.word-2.ensures ∙ c.of.ensures)

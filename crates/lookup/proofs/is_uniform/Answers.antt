@@ -1,5 +1,4 @@
--- Each place before the loop's offset continues the range.
-use Prim.Native.Nat.{◌+◌, ◌-◌, ◌≤◌, ◌<◌}
+returns cuse Prim.Native.Nat.{◌+◌, ◌-◌, ◌≤◌, ◌<◌}
 use mathlib.Core.Path.{◌≡◌, refl, sym, ap, ◌∙◌}
 use mathlib.Core.Bool.{true, not}
 use native.Mathlib.Omega.{arith}
@@ -11,9 +10,10 @@ use Rattle.interface.specs.Basics.{all_below}
 use Rattle.interface.specs.Places.{Cap, cap_at}
 use Rattle.lookup.proofs.UniformLaws.{range_holds, continued_at, Around, breaks, all_continue, one_more}
 use Rattle.lookup.proofs.is_uniform.Goals as goal
+use Rattle.lookup.proofs.is_uniform.Goals.{After-load-resource, In-loop-offset}
 
 -- the range that the loop goes through
-around : (c : tie.After-load2 invariant-loop decreases-loop) →
+around : (c : After-load-resource invariant-loop decreases-loop) →
     let loaded = c.before.before in
     let rounds = loaded.before.before.before in
     let given = rounds.before.before.args in
@@ -30,7 +30,7 @@ around c =
     }
 
 -- the loop's place is a place
-in_range : (c : tie.In-loop invariant-loop decreases-loop) →
+in_range : (c : In-loop-offset invariant-loop decreases-loop) →
     let rounds = c.before.before.before.before.before.before.before in
     rounds.before.before.args.first.0 + (rounds.round-down.result + c.before.loop.offset) < placeCount
 in_range c =
@@ -43,14 +43,14 @@ pub after-requires : goal.after-requires
 after-requires c = omega (arith, c.requires.2, range_holds c.args.order c.args.selector)
 
 pub load-permissions-requires : goal.load-permissions-requires
-load-permissions-requires c = search (after-requires c.before _, rules)
+load-permissions-requires c = search (after-requires c _, rules)
 
 pub after-requires-2 : goal.after-requires-2
 after-requires-2 c =
     omega (arith, c.requires.2, c.round_down-low.ensures, pow_pos c.args.order)
 
 pub load-resource-requires : goal.load-resource-requires
-load-resource-requires c = search (after-requires-2 c.before _, rules)
+load-resource-requires c = search (after-requires-2 c _, rules)
 
 pub loop-offset-init : goal.loop-offset-init
 unfolding all_below
@@ -63,17 +63,17 @@ pub after-requires-in-loop-offset : goal.after-requires-in-loop-offset
 after-requires-in-loop-offset c = in_range c
 
 pub load-cap-requires : goal.load-cap-requires
-load-cap-requires c = search (in_range c.before, rules)
+load-cap-requires c = search (in_range c, rules)
 
 pub returns-then-not-continues : goal.returns-then-not-continues
 returns-then-not-continues c =
-    breaks (around test.before.before) c.loop-offset-test.true (rw c.after-in-loop-offset.ensures at c.load-cap.ensures)
+    breaks (around c) c.loop-offset-test.true (rw c.after-in-loop-offset.ensures at c.load-cap.ensures)
     (sym c.continues.ensures ∙ not-true _ (ap not c.if-not-continues.true))
 
 pub loop-offset-preserved : goal.loop-offset-preserved
 loop-offset-preserved c =
     let continues = sym c.continues.ensures ∙ not-false _ (ap not c.if-not-continues.false) in
-    (omega arith, one_more (around loop.before) _ (rw c.after-in-loop-offset.ensures at c.load-cap.ensures) continues c.loop-offset.invariant.1)
+    (omega arith, one_more (around c) _ (rw c.after-in-loop-offset.ensures at c.load-cap.ensures) continues c.loop-offset.invariant.1)
 
 pub returns : goal.returns
-returns c = all_continue (around c.before.before) (omega arith) c.loop-offset.invariant.1
+returns c = all_continue (around c) (omega arith) c.loop-offset.invariant.1

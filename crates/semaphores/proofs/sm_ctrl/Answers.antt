@@ -1,5 +1,4 @@
--- The checks are the rule's, in its order, and the count that is stored is the rule's step.
-use mathlib.Core.Bool.{not}
+returns cuse mathlib.Core.Bool.{not}
 use Prim.Native.Nat.{◌<◌}
 use mathlib.Core.Path.{◌≡◌, sym, ap, ◌∙◌}
 use native.Mathlib.Omega.{arith}
@@ -10,39 +9,40 @@ use Rattle.interface.specs.Places.{Cap}
 use Rattle.capabilities.proofs.CallerLaws.{sized_places, sized_objects}
 use Rattle.semaphores.proofs.SemaphoreLaws.{named, Allowed, Counted, unknown_operation, not_permitted, semaphore_record, full, raised, empty, lowered}
 use Rattle.semaphores.proofs.sm_ctrl.Goals as goal
+use Rattle.semaphores.proofs.sm_ctrl.Goals.{After-load-count, After-named_by-number, After-object_place-place, Else-not-is_permitted}
 
 -- the place is the one that the call names
-is_named : (c : tie.After-object-place) →
-    let given = c.before.before.before.before.before.before.args in
-    c.object_place_lem.result.0 ≡ named given.objects.now given.caller.0 given.selector
-is_named c = rw c.before.domain.ensures.0 at c.object_place_lem.ensures.0
+is_named : (c : After-object_place-place) →
+    let given = c.args in
+    c.object_place-place.result.0 ≡ named given.objects.now given.caller.0 given.selector
+is_named c = rw c.domain.ensures.0 at c.object_place-place.ensures.0
 
 -- the call passes the first two checks
-passes : (c : tie.Else2) →
-    let given = c.before.before.before.before.before.before.before.before.before.args in
-    Allowed given.places.now given.objects.now given.caller.0 given.selector given.operation c.before.before.before.object_place_lem.result.0
+passes : (c : Else-not-is_permitted) →
+    let given = c.args in
+    Allowed given.places.now given.objects.now given.caller.0 given.selector given.operation c.object_place-place.result.0
 passes c =
     record {
-      called = c.before.before.before.before.before.before.before.before.before.requires;
+      called = c.requires;
       known = omega arith;
-      is_place = is_named c.before.before.before;
-      allowed = sym c.before.is-permitted.ensures ∙ not-false _ c.if2.false;
+      is_place = is_named c.before.before;
+      allowed = sym c.is_permitted.ensures ∙ not-false _ (ap not c.if-not-is_permitted.false);
     }
 
 -- the semaphore's number is a record's
-is_record : (c : tie.After-named-by) → c.named_by.result.0 < records
-is_record c = rw c.named_by.ensures (named-by-requires c.before _)
+is_record : (c : After-named_by-number) → c.named_by-number.result.0 < records
+is_record c = rw c.named_by-number.ensures (named-by-requires c _)
 
 -- the semaphore and its count
-counted : (c : tie.After-load2) →
-    let given = c.before.before.before.before.before.before.before.before.before.before.before.before.before.args in
+counted : (c : After-load-count) →
+    let given = c.args in
     Counted given.places.now given.objects.now given.caller.0 given.selector given.operation
-    c.before.before.before.before.before.before.before.object_place_lem.result.0 c.before.before.named_by.result.0 c.load2.result
+    c.object_place-place.result.0 c.named_by-number.result.0 c.load-count.result
 counted c =
     record {
-      call = passes c.before.before.before.before;
-      is_number = c.before.before.named_by.ensures ∙ ap (λ (cap : Cap). cap.resource) c.before.before.before.load.ensures;
-      is_value = c.load2.ensures;
+      call = passes c.before.before.before;
+      is_number = c.named_by-number.ensures ∙ ap (λ (cap : Cap). cap.resource) c.load.ensures;
+      is_value = c.load-count.ensures;
     }
 
 pub returns-then-operation-gt-DOWN : goal.returns-then-operation-gt-DOWN
@@ -55,33 +55,33 @@ is_permitted-requires c =
 
 pub returns-then-not-is_permitted : goal.returns-then-not-is_permitted
 returns-then-not-is_permitted c =
-    not_permitted (search rules) (omega arith) (is_named c.before.before.before) (sym c.is_permitted.ensures ∙ not-true _ (ap not c.if-not-is_permitted.true))
+    not_permitted (search rules) (omega arith) (is_named (goal.at.returns-then-not-is_permitted c).After-object_place-place) (sym c.is_permitted.ensures ∙ not-true _ (ap not c.if-not-is_permitted.true))
 
 pub load-requires : goal.load-requires
 load-requires c = search (sized_places, rules)
 
 pub named_by-number-requires : goal.named_by-number-requires
-named_by-number-requires c = semaphore_record (passes c.before) c.load.ensures
+named_by-number-requires c = semaphore_record (passes (goal.at.named_by-number-requires c).Else-not-is_permitted) c.load.ensures
 
 pub load-count-requires : goal.load-count-requires
-load-count-requires c = (sized_objects (passes c.before.before.before).called, is_record c.before, omega arith)
+load-count-requires c = (sized_objects (passes (goal.at.load-count-requires c).Else-not-is_permitted).called, is_record (goal.at.load-count-requires c).After-named_by-number, omega arith)
 
 pub returns-then-count : goal.returns-then-count
-returns-then-count c = full (counted c.before.before) c.if-operation-eq-UP.true c.if-count.true
+returns-then-count c = full (counted (goal.at.returns-then-count c).After-load-count) c.if-operation-eq-UP.true c.if-count.true
 
 pub set_count-requires : goal.set_count-requires
-set_count-requires c = (sized_objects (counted c.before.before.before).call.called, is_record c.before.before.before.before.before)
+set_count-requires c = (sized_objects (counted (goal.at.set_count-requires c).After-load-count).call.called, is_record (goal.at.set_count-requires c).After-named_by-number)
 
 pub returns-then-operation-eq-UP : goal.returns-then-operation-eq-UP
 returns-then-operation-eq-UP c =
-    raised (counted up.before) c.if-operation-eq-UP.true (omega arith) c.set_count.ensures
+    raised (counted (goal.at.returns-then-operation-eq-UP c).After-load-count) c.if-operation-eq-UP.true (omega arith) c.set_count.ensures
 
 pub returns-then-count-eq0 : goal.returns-then-count-eq0
-returns-then-count-eq0 c = empty (counted c.before.before) c.if-operation-eq-UP.false c.if-count-eq0.true
+returns-then-count-eq0 c = empty (counted (goal.at.returns-then-count-eq0 c).After-load-count) c.if-operation-eq-UP.false c.if-count-eq0.true
 
 pub set_count-requires-2 : goal.set_count-requires-2
-set_count-requires-2 c = (sized_objects (counted c.before.before.before).call.called, is_record c.before.before.before.before.before)
+set_count-requires-2 c = (sized_objects (counted (goal.at.set_count-requires-2 c).After-load-count).call.called, is_record (goal.at.set_count-requires-2 c).After-named_by-number)
 
 pub returns : goal.returns
 returns c =
-    lowered (counted down.before) c.if-operation-eq-UP.false c.if-count-eq0.false c.set_count-2.ensures
+    lowered (counted (goal.at.returns c).After-load-count) c.if-operation-eq-UP.false c.if-count-eq0.false c.set_count-2.ensures

@@ -1,13 +1,13 @@
--- Who is not admitted is refused, and who is gets what the rule says.
-use mathlib.Core.Path.{sym, ◌∙◌}
+returns-in-Ec cuse mathlib.Core.Path.{sym, ◌∙◌}
 use borrow.Author.Rules.{rules}
 use Rattle.interface.specs.Verdicts.{Call}
 use Rattle.service.specs.Serving.{call_with}
 use Rattle.service.proofs.AdmissionLaws.{served, not_admitted, admitted_caller, admitted_ec}
 use Rattle.service.proofs.serve.Goals as goal
+use Rattle.service.proofs.serve.Goals.{Start}
 
 -- the call that the arguments make
-abbrev call_by : tie.Start → Call
+abbrev call_by : Start → Call
 call_by c = let given = c.args in call_with given.number given.caller given.words given.source.now given.target.now
 
 pub dispatch-requires : goal.dispatch-requires
@@ -16,7 +16,7 @@ dispatch-requires c =
 
 pub returns-in-Refused : goal.returns-in-Refused
 returns-in-Refused c =
-    let by = call_by start in
+    let by = call_by (goal.at.returns-in-Refused c).Start in
     served _ by _ c.requires (not_admitted _ _ c.requires by _ (sym c.admit-admitted.ensures ∙ c.in-Refused.is))
 
 pub returns-in-Ec : goal.returns-in-Ec
