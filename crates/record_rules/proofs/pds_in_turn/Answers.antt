@@ -15,6 +15,7 @@ use Rattle.record_rules.proofs.PdLaws.{pds_small, pds_end, out_of_turn}
 use Rattle.record_rules.proofs.RecordTests.{pd_not}
 use Rattle.record_rules.proofs.RestLaws.{rest_out, rest_in}
 use Rattle.record_rules.proofs.pds_in_turn.Goals as goal
+use Rattle.record_rules.proofs.pds_in_turn.Goals.{then-kind_of-eq-PD+else-not-pd_keeps, else-kind_of-eq-PD}
 
 pub returns-then-not-rest_is_clear : goal.returns-then-not-rest_is_clear
 returns-then-not-rest_is_clear c = rest_out _ _ _ c.rest_is_clear.ensures c.used_records-used.ensures (ap not c.if-not-rest_is_clear.true)
@@ -37,17 +38,18 @@ loop-at-preserved c =
     let kind = c.kind_of.ensures in
     let loop = c.loop-at in
     let s = records_in c.args.objects.now in
-    ⊎_elim
-    (λ w. (
-      omega arith,
-      w.3 ∙ pds_more s loop.at _ _ kind loop.invariant.1 w.0.taken,
-      all_below_more _ _ _ loop.invariant.2 w.1.ensures w.2.left,
-    ))
-    (λ w. (
-      omega arith,
-      w.1 ∙ pds_same s loop.at _ _ kind loop.invariant.1 w.0.left,
-      all_below_more _ _ true loop.invariant.2 (pd_not s loop.at _ kind w.0.left) refl,
-    )) c.if-kind_of-eq-PD.branch
+    elim c.if-kind_of-eq-PD.branch [
+      | then-kind_of-eq-PD+else-not-pd_keeps w ↦ (
+        omega arith,
+        w.before-is ∙ pds_more s loop.at _ _ kind loop.invariant.1 w.if-kind_of-eq-PD.true,
+        all_below_more _ _ _ loop.invariant.2 w.pd_keeps.ensures (ap not w.if-not-pd_keeps.false),
+      )
+      | else-kind_of-eq-PD w ↦ (
+        omega arith,
+        w.before-is ∙ pds_same s loop.at _ _ kind loop.invariant.1 w.if-kind_of-eq-PD.false,
+        all_below_more _ _ true loop.invariant.2 (pd_not s loop.at _ kind w.if-kind_of-eq-PD.false) refl,
+      )
+    ]
 
 pub returns : goal.returns
 returns c =
