@@ -7,9 +7,8 @@ use Rattle.hypervisor_rules.specs.HypervisorKeeping.{steps, is_step}
 use Rattle.hypervisor_rules.proofs.StretchLaws.{step_so}
 use Rattle.hypervisor_rules.proofs.are_steps.Goals as goal
 
-shared-slice-read-wrapping-sub-u32-2 :
-    tie.Need-shared-slice-read-wrapping-sub-u32-2 invariant-loop decreases-loop
-shared-slice-read-wrapping-sub-u32-2 c = omega arith
+pub bounds-table-start-in-loop-i : goal.bounds-table-start-in-loop-i
+bounds-table-start-in-loop-i c = omega arith
 
 pub overflow_mul-start : goal.overflow_mul-start
 overflow_mul-start c = omega arith
@@ -53,7 +52,7 @@ loop-i-preserved c =
     let first = c.args.first in (
       omega arith,
       so_far_more _ _ _ _ loop.invariant.1
-          (step_so _ _ _ (omega (arith, c.shared_slice_known-in-loop-i-2-1.given (place_words * first + loop.i))) (omega arith) c.wrapping_sub_u32.ensures),
+          (step_so _ _ _ (omega (arith, c.type_inv.table (place_words * first + loop.i))) (omega arith) c.wrapping_sub_u32.ensures.value),
     )
 
 pub returns : goal.returns
