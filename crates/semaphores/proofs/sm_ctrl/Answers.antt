@@ -1,4 +1,5 @@
-returns cuse mathlib.Core.Bool.{not}
+-- The checks are the rule's, in its order, and the count that is stored is the rule's step.
+use mathlib.Core.Bool.{not}
 use Prim.Native.Nat.{◌<◌}
 use mathlib.Core.Path.{◌≡◌, sym, ap, ◌∙◌}
 use native.Mathlib.Omega.{arith}
@@ -25,13 +26,13 @@ passes c =
     record {
       called = c.requires;
       known = omega arith;
-      is_place = is_named c.before.before;
+      is_place = is_named (goal.at.Else-not-is_permitted c).After-object_place-place;
       allowed = sym c.is_permitted.ensures ∙ not-false _ (ap not c.if-not-is_permitted.false);
     }
 
 -- the semaphore's number is a record's
 is_record : (c : After-named_by-number) → c.named_by-number.result.0 < records
-is_record c = rw c.named_by-number.ensures (named-by-requires c _)
+is_record c = rw c.named_by-number.ensures (semaphore_record (passes (goal.at.After-named_by-number c).Else-not-is_permitted) c.load.ensures)
 
 -- the semaphore and its count
 counted : (c : After-load-count) →
@@ -40,7 +41,7 @@ counted : (c : After-load-count) →
     c.object_place-place.result.0 c.named_by-number.result.0 c.load-count.result
 counted c =
     record {
-      call = passes c.before.before.before;
+      call = passes (goal.at.After-load-count c).Else-not-is_permitted;
       is_number = c.named_by-number.ensures ∙ ap (λ (cap : Cap). cap.resource) c.load.ensures;
       is_value = c.load-count.ensures;
     }
