@@ -53,11 +53,11 @@ module _ {table : List ℕ} {first size walked : ℕ} {known marks : List ℕ} (
   pub told_before : (p : ℕ) {before : Bool} → before ≡ ltb p walked → before ≡ true → bit_at marks p ≡ test p
   told_before p is_before t = so_far.before p (ltb-true p walked (sym is_before ∙ t))
 
-  pub told_known : (p : ℕ) {is_Known : Bool} → walked ≤ p → is_Known ≡ bit_at known p → is_Known ≡ true → bit_at marks p ≡ test p
+  pub told_known : (p : ℕ) {is_known : Bool} → walked ≤ p → is_known ≡ bit_at known p → is_known ≡ true → bit_at marks p ≡ test p
   told_known p l is t = so_far.later p l ∙ rw (sym is ∙ t)
 
-  pub told_either : (p : ℕ) {before is_Known : Bool} → before ≡ ltb p walked → is_Known ≡ bit_at known p → (before || is_Known) ≡ true → bit_at marks p ≡ test p
-  told_either p {before} {is_Known} is_before is t =
+  pub told_either : (p : ℕ) {before is_known : Bool} → before ≡ ltb p walked → is_known ≡ bit_at known p → (before || is_known) ≡ true → bit_at marks p ≡ test p
+  told_either p {before} {is_known} is_before is t =
       cases (ltb p walked) (λ (b : ltb p walked ≡ true). so_far.before p (ltb-true p walked b))
       (λ (f : ltb p walked ≡ false). told_known p (ltb-false p walked f) is (rw (is_before ∙ f) at t))
 

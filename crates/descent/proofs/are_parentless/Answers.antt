@@ -1,11 +1,6 @@
 -- The answer so far is that of the places before the loop's.
-use Prim.Native.Nat.{◌-◌, ◌≤◌}
-use mathlib.Core.Path.{◌≡◌}
 use native.Mathlib.Omega.{arith}
-use borrow.Author.Rules.{rules}
-use Rattle.interface.specs.Places.{cap_at}
 use Rattle.interface.proofs.Basics.LoopLaws.{so_far_none, so_far_more, so_far_done}
-use Rattle.marks.specs.PlaceBits.{word_bits}
 use Rattle.descent.specs.Walks.{parentless_from}
 use Rattle.descent.proofs.are_parentless.Goals as goal
 

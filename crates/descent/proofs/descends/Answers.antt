@@ -3,7 +3,6 @@ use mathlib.Core.Path.{sym, ◌∙◌}
 use borrow.Author.Tests.{ltb-false}
 use Rattle.descent.proofs.MarkLaws.{told_before}
 use Rattle.descent.proofs.WalkLaws.{parent_small, rootless_below, below_inside, below_outside}
-use borrow.Author.Rules.{rules}
 use Rattle.descent.proofs.descends.Goals as goal
 
 pub load-cap-requires : goal.load-cap-requires

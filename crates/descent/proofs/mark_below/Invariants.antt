@@ -1,13 +1,7 @@
-returns cuse Prim.Native.Nat.{◌+◌, ◌-◌, ◌*◌, ◌≤◌}
-use mathlib.Core.Path.{◌≡◌, ap, ◌∙◌}
-use native.Mathlib.Omega.{arith}
-use lib.Pow.{pow_pos}
-use Rattle.words.specs.Sizes.{domains, greatest_order, selectors, start, stride, space_of}
-use Rattle.words.proofs.PlaceLaws.{space_small, start_rises}
+-- The places of the domains before the loop's are marked; in each, those of other spaces are passed over.
+use Prim.Native.Nat.{◌-◌, ◌*◌, ◌≤◌}
+use Rattle.words.specs.Sizes.{domains, stride}
 use Rattle.descent.specs.Walks.{Marking}
-use Rattle.descent.proofs.MarkLaws.{begun, passed, all_told, not_before, not_after, whole_words}
-use Rattle.descent.proofs.UnmarkedLaws.{not_below}
-use borrow.Author.Rules.{rules}
 use Rattle.descent.proofs.mark_below.Given as goal
 
 abbrev pub invariant-loop-domain : goal.invariant-loop-domain

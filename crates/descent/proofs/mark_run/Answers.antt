@@ -1,12 +1,8 @@
 -- The places before the loop's offset are marked.
-use Prim.Native.Nat.{◌+◌, ◌-◌, ◌%◌, ◌≤◌}
 use mathlib.Core.Path.{◌≡◌}
 use native.Mathlib.Nat.{add-zero}
 use native.Mathlib.Omega.{arith}
-use Rattle.marks.specs.PlaceBits.{word_bits}
-use Rattle.descent.specs.Walks.{Marking}
 use Rattle.descent.proofs.MarkLaws.{marking_at}
-use borrow.Author.Rules.{rules}
 use Rattle.descent.proofs.mark_run.Goals as goal
 
 pub loop-offset-init : goal.loop-offset-init

@@ -1,13 +1,7 @@
 -- The places before the loop's offset are marked.
 use Prim.Native.Nat.{◌+◌, ◌-◌, ◌≤◌}
-use mathlib.Core.Path.{◌≡◌, sym}
-use native.Mathlib.Nat.{add-zero, add_assoc}
-use native.Mathlib.Omega.{arith}
 use Rattle.marks.specs.PlaceBits.{word_bits}
 use Rattle.descent.specs.Walks.{Marking}
-use Rattle.descent.proofs.MarkLaws.{further, passed, marking_at}
-use Rattle.descent.proofs.UnmarkedLaws.{parentless_below}
-use borrow.Author.Rules.{rules}
 use Rattle.descent.proofs.mark_word.Given as goal
 
 abbrev pub invariant-loop-offset : goal.invariant-loop-offset

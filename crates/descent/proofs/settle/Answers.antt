@@ -1,14 +1,8 @@
 -- What was found holds for the loop's place too. The measure is the depth, which falls on the way to a parent.
-use Prim.Native.Nat.{◌<◌}
-use mathlib.Core.Path.{◌≡◌, refl, sym, ◌∙◌}
-use Rattle.words.specs.Sizes.{places}
-use Rattle.interface.specs.Places.{cap_at}
-use Rattle.interface.specs.Effects.{below}
+use mathlib.Core.Path.{refl, sym, ◌∙◌}
 use Rattle.interface.proofs.Basics.BoolLaws.{or_none_left}
-use Rattle.descent.specs.Walks.{Marking}
 use Rattle.descent.proofs.MarkLaws.{settled}
 use Rattle.descent.proofs.WalkLaws.{parent_small, walk_shorter, below_outside}
-use borrow.Author.Rules.{rules}
 use Rattle.descent.proofs.settle.Goals as goal
 
 pub loop-above-init : goal.loop-above-init
@@ -17,7 +11,7 @@ loop-above-init c =
 
 pub set-requires : goal.set-requires
 set-requires c =
-    (c.loop-above.invariant.1, c.loop-above.invariant.0.all_Known)
+    (c.loop-above.invariant.1, c.loop-above.invariant.0.all_known)
 
 pub set-requires-in-loop-above : goal.set-requires-in-loop-above
 set-requires-in-loop-above c =

@@ -1,14 +1,10 @@
 -- What was found holds for the loop's place too. The measure is the depth, which falls on the way to a parent.
 use Prim.Native.Nat.{◌<◌}
-use mathlib.Core.Path.{◌≡◌, refl, sym, ◌∙◌}
+use mathlib.Core.Path.{◌≡◌}
 use Rattle.words.specs.Sizes.{places}
 use Rattle.interface.specs.Places.{cap_at}
 use Rattle.interface.specs.Effects.{below}
-use Rattle.interface.proofs.Basics.BoolLaws.{or_none_left}
 use Rattle.descent.specs.Walks.{Marking}
-use Rattle.descent.proofs.MarkLaws.{settled}
-use Rattle.descent.proofs.WalkLaws.{parent_small, walk_shorter, below_outside}
-use borrow.Author.Rules.{rules}
 use Rattle.descent.proofs.settle.Given as goal
 
 abbrev pub invariant-loop-above : goal.invariant-loop-above

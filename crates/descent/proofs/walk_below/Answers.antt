@@ -1,12 +1,7 @@
 -- The places on the walk are all below the range, or none is. The measure is the depth, which falls on the way to a parent.
-use Prim.Native.Nat.{◌<◌}
-use mathlib.Core.Path.{◌≡◌, refl, ◌∙◌}
-use Rattle.words.specs.Sizes.{places}
-use Rattle.interface.specs.Places.{cap_at}
-use Rattle.interface.specs.Effects.{below}
+use mathlib.Core.Path.{refl, ◌∙◌}
 use Rattle.descent.proofs.MarkLaws.{told_either}
 use Rattle.descent.proofs.WalkLaws.{parent_small, walk_shorter, rootless_below, below_inside, below_outside}
-use borrow.Author.Rules.{rules}
 use Rattle.descent.proofs.walk_below.Goals as goal
 
 pub loop-above-init : goal.loop-above-init
