@@ -19,7 +19,7 @@ use Rattle.endian.proofs.NumberLaws.{number_below}
 use Rattle.endian.proofs.RunLaws.{length_spaced}
 use Rattle.interface.specs.Journal.{decimal}
 use Rattle.hip_format.specs.Format.{type_allowed}
-use Rattle.hip_format.specs.Reader.{checksum_field, length_field, memory_offset, cpu_at, memory_at, contents_of, types_allowed, refused, accepted, judged, summary, reading}
+use Rattle.hip_format.specs.Reader.{checksum_field, length_field, memory_offset, cpu_at, memory_at, contents_of, types_allowed, refused, judged, summary, reading}
 use Rattle.hip_format.specs.declared.Header.{Header}
 use Rattle.hip_format.specs.declared.Cpu.{Cpu}
 use Rattle.hip_format.specs.declared.Memory.{Memory}

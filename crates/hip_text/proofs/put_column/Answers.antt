@@ -2,15 +2,16 @@
 use Prim.Native.Nat.{ℕ, ◌+◌}
 use mathlib.Core.Path.{ap, ◌∙◌}
 use native.Mathlib.Omega.{arith}
-use borrow.Author.Rules.{rules}
 use Rattle.hip_text.specs.PageText.{column}
 use Rattle.hip_text.proofs.LineLaws.{length_column}
 use Rattle.hip_text.proofs.put_column.Goals as goal
 
 pub put_right-requires : goal.put_right-requires
-put_right-requires c = omega (arith, c.requires.0, length_column c.args.width c.args.number c.requires.1.0 c.requires.1.1)
+put_right-requires c = omega (arith, c.requires.width_in_bounds, length_column c.args.width c.args.number c.requires.width_nonzero c.requires.number_bound)
 
-pub returns : goal.returns
+pub returns-clause-wrote : goal.returns-clause-wrote
 unfolding column
-returns c = let whole = length_column c.args.width c.args.number c.requires.1.0 c.requires.1.1 in
-    (c.put_right.ensures, c.put_right.ensures.ends ∙ ap (λ (k : ℕ). c.args.at + k) whole)
+returns-clause-wrote c = c.put_right.ensures
+
+pub returns-clause-value : goal.returns-clause-value
+returns-clause-value c = c.put_right.ensures.ends ∙ ap (λ (k : ℕ). c.args.at + k) (length_column c.args.width c.args.number c.requires.width_nonzero c.requires.number_bound)

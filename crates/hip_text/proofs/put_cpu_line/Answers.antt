@@ -1,7 +1,6 @@
 -- An empty line and the heads stand above the rows.
 use Prim.Native.Nat.{◌-◌}
 use native.Mathlib.Omega.{arith}
-use borrow.Author.Rules.{rules}
 use Rattle.hip_format.specs.Reader.{cpu_at}
 use Rattle.hip_text.specs.PageText.{no_cpu, cpu_heads, cpu_row, cpu_lines}
 use Rattle.hip_text.proofs.LineLaws.{line_empty, line_none, line_heads, line_row}

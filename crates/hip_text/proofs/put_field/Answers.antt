@@ -42,7 +42,6 @@ returns-in-8 c = line_is (header_lines c.args.header) c.args.index 8 c.in-8.is c
 
 pub returns-in_default : goal.returns-in_default
 unfolding header_lines
-returns-in_default c = let others = c.in-0.rest in
-    let last = last_field c.args.index c.requires.1 others.0.0.0.0.0.0.0.0.1 others.0.0.0.0.0.0.0.1 others.0.0.0.0.0.0.1 others.0.0.0.0.0.1
-    others.0.0.0.0.1 others.0.0.0.1 others.0.0.1 others.0.1 others.1 in
+returns-in_default c =
+    let last = last_field c.args.index c.requires.index_bound (search rules) (search rules) (search rules) (search rules) (search rules) (search rules) (search rules) (search rules) (search rules) in
     line_is (header_lines c.args.header) c.args.index 9 last c.put_frequency-in_default.ensures

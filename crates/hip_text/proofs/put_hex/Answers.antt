@@ -2,7 +2,6 @@
 use Prim.Native.Nat.{ℕ, ◌+◌}
 use mathlib.Core.Path.{ap, ◌∙◌}
 use native.Mathlib.Omega.{arith}
-use borrow.Author.Rules.{rules}
 use Rattle.texts.proofs.TextLaws.{length_hexadecimal}
 use Rattle.hip_text.specs.PageText.{hex}
 use Rattle.hip_text.proofs.put_hex.Goals as goal
@@ -10,6 +9,9 @@ use Rattle.hip_text.proofs.put_hex.Goals as goal
 pub put_hex-requires : goal.put_hex-requires
 put_hex-requires c = omega (arith, c.requires, length_hexadecimal c.args.count c.args.number)
 
-pub returns : goal.returns
+pub returns-clause-wrote : goal.returns-clause-wrote
 unfolding hex
-returns c = (c.put_hex.ensures, c.put_hex.ensures.ends ∙ ap (λ (k : ℕ). c.args.at + k) (length_hexadecimal c.args.count c.args.number))
+returns-clause-wrote c = c.put_hex.ensures
+
+pub returns-clause-value : goal.returns-clause-value
+returns-clause-value c = c.put_hex.ensures.ends ∙ ap (λ (k : ℕ). c.args.at + k) (length_hexadecimal c.args.count c.args.number)

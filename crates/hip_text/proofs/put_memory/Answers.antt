@@ -7,6 +7,6 @@ use Rattle.hip_text.proofs.LineLaws.{wrote_memory}
 use Rattle.hip_text.proofs.put_memory.Goals as goal
 
 pub returns : goal.returns
-returns c = let kind = to_z-of_z {w = w32} {z = c.args.memory.kind} (record { sfits = c.struct_told-1.given.1.1.0.1 }) in
-    wrote_memory (omega (arith, c.requires.0)) c.args.index c.args.memory c.put_column-address_at.ensures.0 c.put_hex_column-size_at.ensures.0 c.put_column-auxiliary_at.ensures.0
-    c.put_hex_column-type_at.ensures.0 (rw kind at c.put_type.ensures)
+returns c = let kind = to_z-of_z {w = w32} {z = c.args.memory.kind} (record { sfits = search rules }) in
+    wrote_memory (omega (arith, c.requires.line_bytes_in_bounds)) c.args.index c.args.memory c.put_column-address_at.ensures.wrote c.put_hex_column-size_at.ensures.wrote c.put_column-auxiliary_at.ensures.wrote
+    c.put_hex_column-type_at.ensures.wrote (rw kind at c.put_type.ensures)

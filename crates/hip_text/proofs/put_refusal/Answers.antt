@@ -1,5 +1,4 @@
 -- Each refusal has its own text.
-use borrow.Author.Rules.{rules}
 use Rattle.hip_text.proofs.put_refusal.Goals as goal
 
 pub returns-in-Short : goal.returns-in-Short

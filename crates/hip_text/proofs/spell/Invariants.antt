@@ -1,12 +1,9 @@
 -- The buffer has the lines that the loop has passed. The measure is how many lines are left.
 use Prim.Native.Nat.{◌-◌, ◌≤◌}
-use mathlib.Core.Path.{◌≡◌, refl}
-use native.Mathlib.Omega.{arith}
+use mathlib.Core.Path.{◌≡◌}
 use lib.ListN.{length}
-use borrow.Author.Tests.{leb-true, leb-false}
-use borrow.Author.Rules.{rules}
 use Rattle.hip_text.specs.PageText.{page_lines}
-use Rattle.hip_text.proofs.LineLaws.{SoFar, far_none, far_more, far_spelled}
+use Rattle.hip_text.proofs.LineLaws.{SoFar}
 use Rattle.hip_text.proofs.spell.Given as goal
 
 abbrev pub invariant-loop-next : goal.invariant-loop-next
