@@ -1,5 +1,4 @@
 -- The sum of two words fits a word of twice the width.
-use borrow.Author.Rules.{rules}
 use Rattle.lookup.proofs.continues.Goals as goal
 
 pub returns : goal.returns

@@ -1,4 +1,5 @@
-returns cuse mathlib.Core.Bool.{not}
+-- Nothing is found where nothing is held, and else the largest range around the base.
+use mathlib.Core.Bool.{not}
 use Prim.Native.Nat.{◌+◌, ◌%◌, ◌≤◌, ◌<◌}
 use mathlib.Core.Path.{◌≡◌, refl, sym, ◌∙◌, ap}
 use native.Mathlib.Nat.{add-zero}
@@ -17,23 +18,21 @@ use Rattle.lookup.proofs.found.Goals.{After-greatest_order, After-largest_order-
 
 -- the base, and what its place holds
 base_of : (c : After-of-first) {cap : Cap} →
-    let given = c.before.before.before.before.before.before.args in
-    cap ≡ cap_at given.places.now (c.of.result.0 + c.before.before.number.result) →
-    Base given.places.now given.domain given.range c.of.result.0 c.before.before.number.result cap
+    let given = c.args in
+    cap ≡ cap_at given.places.now (c.of-first.result.0 + c.number-selector.result) →
+    Base given.places.now given.domain given.range c.of-first.result.0 c.number-selector.result cap
 base_of c is_cap =
-    let numbered = c.before.before in
-    let spaced = numbered.before.before in
     record {
-      proper = spaced.before.before.requires.2;
-      is_first = rw (spaced.space.ensures, c.before.wrapped.ensures, add-zero) at c.of.ensures;
-      is_selector = numbered.number.ensures ∙ rw add-zero at numbered.before.at.ensures.0;
+      proper = c.requires.2;
+      is_first = rw (c.space-space.ensures, c.wrapped.ensures, add-zero) at c.of-first.ensures;
+      is_selector = c.number-selector.ensures ∙ rw add-zero at c.at.ensures.0;
       is_cap = is_cap;
     }
 
 is_base : (c : After-load-cap) →
     let given = c.args in
     Base given.places.now given.domain given.range c.of-first.result.0 c.number-selector.result c.load-cap.result
-is_base c = base_of c (rw c.after.ensures at c.load-cap.ensures)
+is_base c = base_of (goal.at.After-load-cap c).After-of-first (rw c.after.ensures at c.load-cap.ensures)
 
 -- the base's place is a place
 base_inside : (c : After-of-first) → c.of-first.result.0 + c.number-selector.result < placeCount
@@ -52,7 +51,7 @@ low_is c = rw c.round_down.ensures at c.wrapped-base.ensures
 
 order_small : (c : After-largest_order-order) →
     c.largest_order-order.result ≤ greatest_order c.args.range.space
-order_small c = rw (greatest_is c.before) at c.largest_order-order.ensures.1
+order_small c = rw (greatest_is (goal.at.After-largest_order-order c).After-greatest_order) at c.largest_order-order.ensures.1
 
 pub at-requires : goal.at-requires
 at-requires c = (c.requires.2, pow_pos c.args.range.order)

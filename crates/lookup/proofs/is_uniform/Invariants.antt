@@ -1,14 +1,10 @@
-returns cuse Prim.Native.Nat.{◌+◌, ◌-◌, ◌≤◌, ◌<◌}
-use mathlib.Core.Path.{◌≡◌, refl, sym, ap, ◌∙◌}
+-- Each place before the loop's offset continues the range.
+use Prim.Native.Nat.{◌+◌, ◌-◌, ◌≤◌}
+use mathlib.Core.Path.{◌≡◌}
 use mathlib.Core.Bool.{true}
-use native.Mathlib.Omega.{arith}
-use lib.Pow.{pow_pos}
-use borrow.Author.Rules.{rules}
-use borrow.Author.Tests.{not-true, not-false}
-use Rattle.words.specs.Sizes.{places as placeCount}
 use Rattle.interface.specs.Basics.{all_below}
-use Rattle.interface.specs.Places.{Cap, cap_at}
-use Rattle.lookup.proofs.UniformLaws.{range_holds, continued_at, Around, breaks, all_continue, one_more}
+use Rattle.interface.specs.Places.{cap_at}
+use Rattle.lookup.proofs.UniformLaws.{continued_at}
 use Rattle.lookup.proofs.is_uniform.Given as goal
 
 abbrev pub invariant-loop-offset : goal.invariant-loop-offset

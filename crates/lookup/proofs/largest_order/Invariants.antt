@@ -1,11 +1,8 @@
 -- No range of an order above the loop's is uniform.
 use Prim.Native.Nat.{◌+◌, ◌≤◌}
-use mathlib.Core.Path.{◌≡◌, refl, sym, ◌∙◌}
-use native.Mathlib.Omega.{arith}
-use borrow.Author.Rules.{rules}
+use mathlib.Core.Path.{◌≡◌}
 use Rattle.interface.specs.Places.{cap_at}
 use Rattle.interface.specs.Lookup.{largest}
-use Rattle.lookup.proofs.UniformLaws.{around_ends, largest_here, largest_below, largest_least}
 use Rattle.lookup.proofs.largest_order.Given as goal
 
 abbrev pub invariant-loop-order : goal.invariant-loop-order

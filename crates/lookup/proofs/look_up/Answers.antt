@@ -1,5 +1,5 @@
-returns-in-Good c call is_caller is_firstuse mathlib.Core.Path.{◌≡◌, sym, ◌∙◌}
-use borrow.Author.Rules.{rules}
+-- The reply is the rule's for each reading of the descriptor.
+use mathlib.Core.Path.{◌≡◌, sym, ◌∙◌}
 use Rattle.descriptor.specs.Descriptors.{reading}
 use Rattle.descriptor.proofs.DescriptorLaws.{reading_kept, good_proper}
 use Rattle.interface.proofs.History.LentOutLaws.{permissions_small}
