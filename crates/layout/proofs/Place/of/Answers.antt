@@ -1,6 +1,5 @@
 -- The sum is a place's number, so no part of it leaves a word.
 use native.Mathlib.Omega.{arith}
-use borrow.Author.Rules.{rules}
 use Rattle.words.specs.Sizes.{spaces}
 use Rattle.words.proofs.PlaceLaws.{start_rises}
 use Rattle.layout.proofs.Place.of.Goals as goal

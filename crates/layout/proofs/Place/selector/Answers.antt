@@ -1,6 +1,5 @@
 -- A place's space begins at or before it among the places of its domain.
 use native.Mathlib.Omega.{arith}
-use borrow.Author.Rules.{rules}
 use Rattle.words.proofs.PlaceLaws.{space_small, made_so}
 use Rattle.layout.proofs.Place.selector.Goals as goal
 

@@ -1,5 +1,4 @@
 -- The arm tells the variant, and its number computes.
-use borrow.Author.Rules.{rules}
 use Rattle.reply.proofs.Reply.status.Goals as goal
 
 pub returns-in-Success : goal.returns-in-Success

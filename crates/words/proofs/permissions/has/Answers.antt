@@ -1,5 +1,4 @@
 -- The bit that is shifted down to place 0 is the field that it alone makes.
-use borrow.Author.Rules.{rules}
 use native.Mathlib.Nat.{add-sub_cancel_left}
 use Rattle.words.proofs.permissions.has.Goals as goal
 
