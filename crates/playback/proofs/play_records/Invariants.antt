@@ -1,21 +1,11 @@
 -- The records up to where the loop stands are played. The measure is the number of bytes that are left.
 use Prim.Native.Nat.{◌+◌, ◌-◌, ◌^◌, ◌≤◌, ◌<◌}
-use mathlib.Core.Path.{◌≡◌, refl, sym, ◌∙◌}
-use mathlib.Core.Bool.{true, true≢false}
-use mathlib.Core.List.{[], ◌∷◌}
-use native.Mathlib.Omega.{arith}
-use lib.ListN.{length, take, drop}
-use types.Run.{OneOf, miss}
-use denote.Enum.Declared.{tag_of}
-use borrow.Author.Rules.{rules}
+use mathlib.Core.Path.{◌≡◌}
+use mathlib.Core.Bool.{true}
+use lib.ListN.{length, take}
 use Rattle.interface.specs.Places.{tables}
 use Rattle.interface.specs.Damage.{sound}
-use Rattle.playback.specs.declared.Found.{Found}
-use Rattle.playback.specs.declared.Found.TheVariants.{Nothing, Unknown, Short, Whole}
-use Rattle.playback.specs.Playing.{is_whole, Plays}
-use Rattle.playback.specs.contracts.Found as found_type
-use Rattle.playback.proofs.FoundLaws.{FoundWhole, whole_found, whole_inside}
-use Rattle.playback.proofs.PlayingLaws.{plays_start, plays_more}
+use Rattle.playback.specs.Playing.{Plays}
 use Rattle.playback.proofs.play_records.Given as goal
 
 abbrev pub invariant-loop-kind : goal.invariant-loop-kind

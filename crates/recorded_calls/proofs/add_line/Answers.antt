@@ -5,5 +5,6 @@ use Rattle.recorded_calls.proofs.add_line.Goals as goal
 
 pub returns : goal.returns
 returns c = let spelt = c.spell in
-    line_added c.args.out.now c.args.at c.args.line c.requires spelt.new.1.0 spelt.result (search rules)
-    spelt.ensures.0 spelt.ensures.1.0 spelt.ensures.1.1
+    let told = line_added c.args.out.now c.args.at c.args.line c.requires spelt.new.out spelt.result (search rules)
+    spelt.ensures.out_after spelt.ensures.value spelt.ensures.prefix_len in
+    record { wrote = told.0; upper_bound = told.1 }

@@ -1,29 +1,7 @@
 -- The hypercall that is made is the recorded one.
 use mathlib.Core.Path.{refl}
-use borrow.Author.Rules.{rules}
 use Rattle.recorded_calls.proofs.PlayLaws.{source_length, target_length, Read, plays_call, plays_other}
 use Rattle.recorded_calls.proofs.play.Goals as goal
-
--- the words are the body's
-words : (c : tie.After-body-word7) →
-    let word6 = c.before in
-    let word5 = word6.before in
-    let word4 = word5.before in
-    let word3 = word4.before in
-    let word2 = word3.before in
-    let word1 = word2.before in
-    Read word1.before.before.before.before.args.body.now word1.body-word.result word2.body-word2.result word3.body-word3.result word4.body-word4.result
-    word5.body-word5.result word6.body-word6.result c.body-word7.result
-words c =
-    record {
-      is_caller = c.before.before.before.before.before.before.body-word.ensures;
-      is_first = c.before.before.before.before.before.body-word2.ensures;
-      is_second = c.before.before.before.before.body-word3.ensures;
-      is_third = c.before.before.before.body-word4.ensures;
-      is_fourth = c.before.before.body-word5.ensures;
-      is_fifth = c.before.body-word6.ensures;
-      is_sixth = c.body-word7.ensures;
-    }
 
 pub slice_bounds-serve-end : goal.slice_bounds-serve-end
 slice_bounds-serve-end c = source_length _ _ c.source.ensures
@@ -36,7 +14,18 @@ returns-then-kind-eq-CALL c =
     let served = c.serve.ensures in
     let is_source = c.source.ensures in
     let is_target = c.target.ensures in
-    (plays_call (words chosen.before) _ served.0 c.if-kind-eq-CALL.true is_source is_target, search rules)
+    let words : Read c.args.body.now c.body_word-caller.result c.body_word-first.result c.body_word-second.result c.body_word-third.result c.body_word-fourth.result
+    c.body_word-fifth.result c.body_word-sixth.result =
+    record {
+      is_caller = c.body_word-caller.ensures;
+      is_first = c.body_word-first.ensures;
+      is_second = c.body_word-second.ensures;
+      is_third = c.body_word-third.ensures;
+      is_fourth = c.body_word-fourth.ensures;
+      is_fifth = c.body_word-fifth.ensures;
+      is_sixth = c.body_word-sixth.ensures;
+    } in
+    record { objects_after = plays_call words _ served.serves c.if-kind-eq-CALL.true is_source is_target; objects_after_2 = served.objects_after }
 
 pub slice_bounds-serve-end-2 : goal.slice_bounds-serve-end-2
 slice_bounds-serve-end-2 c = refl
@@ -47,4 +36,15 @@ slice_bounds-serve-end-3 c = refl
 pub returns : goal.returns
 returns c =
     let served = c.serve-2.ensures in
-    (plays_other (words chosen.before) _ served.0 c.if-kind-eq-CALL.false refl refl, search rules)
+    let words : Read c.args.body.now c.body_word-caller.result c.body_word-first.result c.body_word-second.result c.body_word-third.result c.body_word-fourth.result
+    c.body_word-fifth.result c.body_word-sixth.result =
+    record {
+      is_caller = c.body_word-caller.ensures;
+      is_first = c.body_word-first.ensures;
+      is_second = c.body_word-second.ensures;
+      is_third = c.body_word-third.ensures;
+      is_fourth = c.body_word-fourth.ensures;
+      is_fifth = c.body_word-fifth.ensures;
+      is_sixth = c.body_word-sixth.ensures;
+    } in
+    record { objects_after = plays_other words _ served.serves c.if-kind-eq-CALL.false refl refl; objects_after_2 = served.objects_after }

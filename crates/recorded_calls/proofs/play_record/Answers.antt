@@ -1,5 +1,4 @@
 -- The tables are those after the hypercall, and the line is that of its reply.
-use borrow.Author.Rules.{rules}
 use mathlib.Core.Path.{ap, ◌∙◌}
 use Rattle.interface.specs.Places.{tables}
 use Rattle.interface.specs.Outcomes.{Answered}
@@ -14,9 +13,9 @@ returns c =
     let playing = c.play-reply.ensures in
     let status = c.status-status.ensures in
     let answer = c.answer-answer.ensures in
-    let line = c.add_line.ensures.0 in
+    let line = c.add_line.ensures.wrote in
     record {
-      leaves = ap (λ (p : Answered). p.tables) playing.0 ∙ after_one here (recorded_call start.kind start.body.now);
-      still_sound = search rules;
-      writes = line_played here start.index start.kind start.body.now (ap (λ (p : Answered). p.reply) playing.0) status answer line;
+      leaves = ap (λ (p : Answered). p.tables) playing.objects_after ∙ after_one here (recorded_call start.kind start.body.now);
+      still_sound = playing.objects_after_2;
+      writes = line_played here start.index start.kind start.body.now (ap (λ (p : Answered). p.reply) playing.objects_after) status answer line;
     }

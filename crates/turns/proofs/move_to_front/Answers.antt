@@ -1,9 +1,8 @@
 -- The front of the buffer has the bytes that the loop has passed, and the rest is as it was.
-use Prim.Native.Nat.{◌+◌, ◌-◌, ◌≤◌}
+use Prim.Native.Nat.{◌-◌}
 use mathlib.Core.Path.{◌≡◌, refl}
 use native.Mathlib.Omega.{arith}
-use lib.ListN.{length, length-set}
-use Rattle.turns.specs.Buffers.{fronted}
+use lib.ListN.{length-set}
 use Rattle.turns.proofs.FrontLaws.{fronted_more}
 use Rattle.turns.proofs.move_to_front.Goals as goal
 
@@ -42,4 +41,5 @@ shape_of-buffer c = omega arith
 
 pub returns : goal.returns
 returns c = let turn = c.loop-i in
-    let all : turn.i ≡ c.args.to - c.args.from = omega arith in (refl, rw all at turn.invariant.3)
+    let all : turn.i ≡ c.args.to - c.args.from = omega arith in
+    record { value = refl; buffer_after = rw all at turn.invariant.3 }

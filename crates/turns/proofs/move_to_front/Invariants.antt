@@ -1,10 +1,8 @@
 -- The front of the buffer has the bytes that the loop has passed, and the rest is as it was.
 use Prim.Native.Nat.{◌+◌, ◌-◌, ◌≤◌}
-use mathlib.Core.Path.{◌≡◌, refl}
-use native.Mathlib.Omega.{arith}
-use lib.ListN.{length, length-set}
+use mathlib.Core.Path.{◌≡◌}
+use lib.ListN.{length}
 use Rattle.turns.specs.Buffers.{fronted}
-use Rattle.turns.proofs.FrontLaws.{fronted_more}
 use Rattle.turns.proofs.move_to_front.Given as goal
 
 abbrev pub invariant-loop-i : goal.invariant-loop-i

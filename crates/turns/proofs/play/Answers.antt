@@ -6,35 +6,34 @@ use borrow.Author.Rules.{rules}
 use Rattle.turns.proofs.play.Goals as goal
 
 pub returns-then-done-input : goal.returns-then-done-input
-returns-then-done-input c = (
-  search rules,
-  (
+returns-then-done-input c =
     record {
-      all_read = refl;
-      plays = plays_start _ _ _ _ (search rules);
-      stands = c.record_at.ensures;
-      no_room = λ below. absurd (omega arith);
-      over = λ below. absurd (omega arith);
-      past_count = λ past. (refl, refl);
-      still_last = refl;
-    },
-    search rules,
-  ),
-)
+      inside = search rules;
+      turn = record {
+        all_read = refl;
+        plays = plays_start _ _ _ _ (search rules);
+        stands = c.record_at.ensures;
+        no_room = λ below. absurd (omega arith);
+        over = λ below. absurd (omega arith);
+        past_count = λ past. (refl, refl);
+        still_last = refl;
+      };
+      objects_after = search rules;
+    }
 
 pub returns : goal.returns
-returns c = let played = c.play_records-played.ensures in (
-  record { next = played.1.0.inside; read = omega arith; lines = played.0.writes.fits; long = search rules },
-  (
+returns c =
+    let played = c.play_records-played.ensures in
     record {
-      all_read = refl;
-      plays = played.0;
-      stands = played.1.0.stands;
-      no_room = λ below. played.1.0.no_room;
-      over = λ below. c.is_end.ensures;
-      past_count = λ past. absurd (omega arith);
-      still_last = refl;
-    },
-    played.1.1,
-  ),
-)
+      inside = record { next = played.stops.inside; read = omega arith; lines = played.plays.writes.fits; long = search rules };
+      turn = record {
+        all_read = refl;
+        plays = played.plays;
+        stands = played.stops.stands;
+        no_room = λ below. played.stops.no_room;
+        over = λ below. c.is_end.ensures;
+        past_count = λ past. absurd (omega arith);
+        still_last = refl;
+      };
+      objects_after = played.objects_after;
+    }
