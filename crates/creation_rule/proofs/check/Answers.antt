@@ -1,5 +1,4 @@
-returns cuse mathlib.Core.Bool.{not}
-use mathlib.Core.Path.{ap}
+-- Each way out of the checks is a law's, by the tests on the way.
 use borrow.Author.Rules.{rules}
 use Rattle.interface.specs.Places.{view}
 use Rattle.interface.specs.Creations.{free_record}
@@ -21,7 +20,7 @@ past_own : (c : Else-not-new-3) →
     let s = view args.places.now args.objects.now in
     Says s args.domain args.selector args.pd args.new (last_check s args.domain args.selector args.new)
 past_own c =
-    goes_last (past_pd c.before.before.before.before.before.before) (ap not c.if-not-new.false) (ap not c.if-not-new-2.false) (ap not c.if-not-new-3.false)
+    goes_last (past_pd (goal.at.Else-not-new-3 c).Else-not-is_permitted) c.if-not-new.false c.if-not-new-2.false c.if-not-new-3.false
 
 pub returns-then-is_live : goal.returns-then-is_live
 returns-then-is_live c = search (new_live, rules)
@@ -30,14 +29,14 @@ pub returns-then-not-is_permitted : goal.returns-then-not-is_permitted
 returns-then-not-is_permitted c = search (not_by_pd, rules)
 
 pub returns-then-not-new : goal.returns-then-not-new
-returns-then-not-new c = not_bindable (past_pd (goal.at.returns-then-not-new c).Else-not-is_permitted) (ap not c.if-not-new.true)
+returns-then-not-new c = not_bindable (past_pd (goal.at.returns-then-not-new c).Else-not-is_permitted) c.if-not-new.true
 
 pub returns-then-not-new-2 : goal.returns-then-not-new-2
-returns-then-not-new-2 c = not_on_cpu (past_pd (goal.at.returns-then-not-new-2 c).Else-not-is_permitted) (ap not c.if-not-new.false) (ap not c.if-not-new-2.true)
+returns-then-not-new-2 c = not_on_cpu (past_pd (goal.at.returns-then-not-new-2 c).Else-not-is_permitted) c.if-not-new.false c.if-not-new-2.true
 
 pub returns-then-not-new-3 : goal.returns-then-not-new-3
 returns-then-not-new-3 c =
-    not_good (past_pd (goal.at.returns-then-not-new-3 c).Else-not-is_permitted) (ap not c.if-not-new.false) (ap not c.if-not-new-2.false) (ap not c.if-not-new-3.true)
+    not_good (past_pd (goal.at.returns-then-not-new-3 c).Else-not-is_permitted) c.if-not-new.false c.if-not-new-2.false c.if-not-new-3.true
 
 pub free_record-requires : goal.free_record-requires
 free_record-requires c =
@@ -50,9 +49,9 @@ returns-in_default c = no_record (past_own (goal.at.returns-in_default c).Else-n
 pub returns-then-not-new-4 : goal.returns-then-not-new-4
 unfolding free_record
 returns-then-not-new-4 c =
-    no_domain (past_own (goal.at.returns-then-not-new-4 c).Else-not-new-3) c.free_record.ensures c.in-Numbered.is (ap not c.if-not-new-4.true)
+    no_domain (past_own (goal.at.returns-then-not-new-4 c).Else-not-new-3) c.free_record.ensures c.in-Numbered.is c.if-not-new-4.true
 
 pub returns : goal.returns
 unfolding free_record
 returns c =
-    has_room (past_own (goal.at.returns c).Else-not-new-3) c.free_record.ensures c.in-Numbered.is (ap not c.if-not-new-3.false) (ap not c.if-not-new-4.false)
+    has_room (past_own (goal.at.returns c).Else-not-new-3) c.free_record.ensures c.in-Numbered.is c.if-not-new-3.false c.if-not-new-4.false

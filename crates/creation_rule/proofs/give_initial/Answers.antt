@@ -1,5 +1,4 @@
 -- A null or malformed descriptor hands on nothing, and any other its range.
-use borrow.Author.Rules.{rules}
 use Rattle.creation_rule.proofs.InitialLaws.{hands_none}
 use Rattle.creation_rule.proofs.give_initial.Goals as goal
 

@@ -1,14 +1,9 @@
-returns cuse Prim.Native.Nat.{◌-◌, ◌^◌, ◌≤◌, ◌<◌}
+-- The places before the loop's offset are handed on.
+use Prim.Native.Nat.{◌-◌, ◌^◌, ◌≤◌}
 use mathlib.Core.Path.{◌≡◌}
-use native.Mathlib.Omega.{arith}
-use borrow.Author.Rules.{rules}
-use Rattle.words.specs.Sizes.{object, selectors}
-use Rattle.descriptor.proofs.DescriptorLaws.{proper_order}
-use Rattle.interface.specs.Basics.{listed}
 use Rattle.interface.specs.Creations.{hand_on}
 use Rattle.places.specs.Table.{Sized}
 use Rattle.creation_rule.specs.CreationRule.{Hands}
-use Rattle.creation_rule.proofs.InitialLaws.{hands_none, hands_more}
 use Rattle.creation_rule.proofs.hand_on.Given as goal
 
 abbrev pub invariant-loop-offset : goal.invariant-loop-offset

@@ -1,5 +1,4 @@
 -- The arms tell the reading's variant, and a range its space.
-use borrow.Author.Rules.{rules}
 use Rattle.creation_rule.proofs.is_initial.Goals as goal
 
 pub returns-in-Good : goal.returns-in-Good

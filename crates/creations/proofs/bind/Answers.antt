@@ -1,5 +1,4 @@
 -- The place is that of the selector, and what it holds tells both.
-use borrow.Author.Rules.{rules}
 use Rattle.creations.proofs.bind.Goals as goal
 
 pub returns : goal.returns
