@@ -4,9 +4,8 @@ use mathlib.Core.Path.{◌≡◌, sym, ◌∙◌}
 use mathlib.Core.Bool.{Bool}
 use mathlib.Core.List.{List}
 use borrow.Author.Tests.{eq-eqb, ne_eqb}
-use Rattle.words.specs.Sizes.{places}
 use Rattle.words.specs.Permissions.{revoked}
-use Rattle.interface.specs.Basics.{if◌then◌else◌, put}
+use Rattle.interface.specs.Basics.{put}
 use Rattle.interface.specs.Places.{Cap, nothing, cap_at, cap_table}
 use Rattle.interface.specs.Effects.{below, stripped, cut_caps}
 use Rattle.interface.proofs.History.CutLaws.{stripped_none, stripped_some}

@@ -1,11 +1,9 @@
 -- The table shows what the delegations before the loop's offset make of it, and the count is how many of them filled a place.
-use Prim.Native.Nat.{◌-◌}
 use mathlib.Core.Path.{sym, ◌∙◌}
-use mathlib.Core.Logic.{⊎_elim}
+use Rattle.delegation.proofs.delegate.Goals.{then-give_at, else-give_at}
 use native.Mathlib.Omega.{arith}
-use borrow.Author.Rules.{rules}
 use Rattle.descriptor.proofs.DescriptorLaws.{proper_order, proper_end}
-use Rattle.delegation.proofs.DelegateLaws.{Going, going_begins, going_filled, going_unfilled, going_ends}
+use Rattle.delegation.proofs.DelegateLaws.{going_begins, going_filled, going_unfilled, going_ends}
 use Rattle.delegation.proofs.delegate.Goals as goal
 
 pub offset-item_offset-requires : goal.offset-item_offset-requires
@@ -51,7 +49,10 @@ pub loop-i-preserved : goal.loop-i-preserved
 loop-i-preserved c = let g = c.loop-i.invariant in
     let inside = c.loop-i-test.true in
     let given = c.give_at.ensures in
-    ⊎_elim (λ w. going_filled g inside given w.0.taken w.1) (λ w. going_unfilled g inside given w.0.left w.1) c.if-give_at.branch
+    elim c.if-give_at.branch [
+      | then-give_at w ↦ going_filled g inside given w.if-give_at.true w.count-is
+      | else-give_at w ↦ going_unfilled g inside given w.if-give_at.false w.count-is
+    ]
 
 pub shape_of-table : goal.shape_of-table
 shape_of-table c = c.loop-i.invariant.running.sized ∙ sym c.requires.0

@@ -1,11 +1,6 @@
 -- The table shows what the delegations before the loop's offset make of it, and the count is how many of them filled a place.
 use Prim.Native.Nat.{◌-◌}
-use mathlib.Core.Path.{sym, ◌∙◌}
-use mathlib.Core.Logic.{⊎_elim}
-use native.Mathlib.Omega.{arith}
-use borrow.Author.Rules.{rules}
-use Rattle.descriptor.proofs.DescriptorLaws.{proper_order, proper_end}
-use Rattle.delegation.proofs.DelegateLaws.{Going, going_begins, going_filled, going_unfilled, going_ends}
+use Rattle.delegation.proofs.DelegateLaws.{Going}
 use Rattle.delegation.proofs.delegate.Given as goal
 
 abbrev pub invariant-loop-i : goal.invariant-loop-i

@@ -1,4 +1,5 @@
-returns cuse Prim.Native.Nat.{◌<◌}
+-- The places are those of the ranges' offsets.
+use Prim.Native.Nat.{◌<◌}
 use native.Mathlib.Omega.{arith}
 use borrow.Author.Rules.{rules}
 use Rattle.words.specs.Sizes.{spaces, selectors}
@@ -22,10 +23,10 @@ of-destination-requires c = search (into_small (goal.at.of-destination-requires 
 
 pub give-requires : goal.give-requires
 give-requires c = let small : c.space-space.result < spaces = omega arith in (
-      c.requires.0,
-      made_small _ _ _ _ c.requires.2 small (into_small (goal.at.give-requires c).After-at-2) c.of-destination.ensures,
-      made_small _ _ _ _ c.requires.1 small (at_small (goal.at.give-requires c).After-at) c.of-source.ensures,
-    )
+  c.requires.0,
+  made_small _ _ _ _ c.requires.2 small (into_small (goal.at.give-requires c).After-at-2) c.of-destination.ensures,
+  made_small _ _ _ _ c.requires.1 small (at_small (goal.at.give-requires c).After-at) c.of-source.ensures,
+)
 
 pub returns : goal.returns
 returns c = given_places c.args.from c.args.to c.args.item c.args.window c.args.at c.args.into c.give.ensures

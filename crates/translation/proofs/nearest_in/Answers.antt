@@ -1,6 +1,5 @@
 -- The nearest ancestor in a domain is the first among the domain's places.
 use mathlib.Core.Path.{sym, ap, ◌∙◌}
-use borrow.Author.Rules.{rules}
 use Rattle.layout.specs.Numbers.{linked}
 use Rattle.interface.specs.Places.{cap_at}
 use Rattle.descent.proofs.LinkLaws.{nearest_first_among}

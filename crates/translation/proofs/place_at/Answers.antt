@@ -1,4 +1,5 @@
-returns cuse Prim.Native.Nat.{◌<◌}
+-- The place is that of the range's offset.
+use Prim.Native.Nat.{◌<◌}
 use native.Mathlib.Omega.{arith}
 use borrow.Author.Rules.{rules}
 use Rattle.words.specs.Sizes.{spaces, selectors}

@@ -1,14 +1,12 @@
 -- The ancestors of the offsets before the search's are in a line inside the window, and the mask has what all of their places permit.
 use mathlib.Core.Bool.{not}
 use mathlib.Core.Path.{ap}
-use Prim.Native.Nat.{◌-◌}
-use mathlib.Core.Logic.{⊎_elim}
 use native.Mathlib.Omega.{arith}
 use lib.Pow.{pow_pos}
-use borrow.Author.Rules.{rules}
 use Rattle.descriptor.proofs.DescriptorLaws.{proper_order, proper_end}
-use Rattle.translation.proofs.TranslateLaws.{Searching, search_begins, search_none, next_small, search_elsewhere, search_on, search_shows}
+use Rattle.translation.proofs.TranslateLaws.{search_begins, search_none, next_small, search_elsewhere, search_on, search_shows}
 use Rattle.translation.proofs.translate.Goals as goal
+use Rattle.translation.proofs.translate.Goals.{else-search-test, then-search-test+in_default, then-search-test+in-At+then-not-lies_there}
 
 pub size-size-requires : goal.size-size-requires
 size-size-requires c = omega (arith, proper_order c.requires.4.item_proper)
@@ -52,14 +50,20 @@ search-preserved c = let s = c.search.invariant in
 
 pub returns-then-i-size : goal.returns-then-i-size
 returns-then-i-size c = let s = c.search.invariant in
-    ⊎_elim (λ w. absurd (omega (arith, w.0.left)))
-    (⊎_elim (λ w. search_none s w.0.taken w.1.ensures.0 w.2.ensures w.4.given.1)
-    (λ w.
-    search_elsewhere s w.0.taken w.1.ensures.0 w.2.ensures w.4.given.1 w.6.ensures w.7.ensures w.8.ensures w.9.ensures w.10.ensures
-    w.11.taken))
-    c.search-test.branch
+    elim c.search-test.branch [
+      | else-search-test w ↦ absurd (omega (arith, w.search-test.false))
+      | then-search-test+in_default w ↦
+          search_none s w.search-test.true w.place_at-place.ensures.0 w.nearest_in.ensures w.in_default.is
+      | then-search-test+in-At+then-not-lies_there w ↦
+          search_elsewhere s w.search-test.true w.place_at-place.ensures.0 w.nearest_in.ensures w.in-At.is
+          w.selector-selector.ensures w.base_of-base.ensures w.number.ensures w.number-in-search.ensures w.lies_there.ensures
+          (ap not w.if-not-lies_there.true)
+    ]
 
 pub returns : goal.returns
 returns c = let s = c.search.invariant in
-    ⊎_elim (λ w. search_shows s c.if-i-size.false c.space.ensures (rw w.1 at c.of.ensures))
-    (⊎_elim (λ w. absurd (omega (arith, w.0.taken))) (λ w. absurd (omega (arith, w.0.taken)))) c.search-test.branch
+    elim c.search-test.branch [
+      | else-search-test w ↦ search_shows s c.if-i-size.false c.space.ensures (rw w.base-is at c.of.ensures)
+      | then-search-test+in_default w ↦ absurd (omega (arith, w.search-test.true))
+      | then-search-test+in-At+then-not-lies_there w ↦ absurd (omega (arith, w.search-test.true))
+    ]

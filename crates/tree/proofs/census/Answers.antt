@@ -4,7 +4,6 @@ use mathlib.Core.Path.{ap, ◌∙◌}
 use native.Mathlib.Omega.{arith}
 use lib.ListN.{length}
 use Rattle.tree.proofs.CensusLaws.{alone, marked_descendants, counts_beyond, named_small, counts_null, counts_short, counts_all}
-use borrow.Author.Rules.{rules}
 use Rattle.tree.proofs.census.Goals as goal
 
 pub returns-in_default : goal.returns-in_default
@@ -21,7 +20,10 @@ returns-then-not-is_live c =
 
 pub mark_below-requires : goal.mark_below-requires
 mark_below-requires c =
-    ((c.requires.0, c.requires.1, alone _ (named_small _ c.found.ensures _ c.in-At.is)), c.blank-marked.ensures)
+    record {
+      sized = (c.requires.0, c.requires.1, alone _ (named_small _ c.found.ensures _ c.in-At.is));
+      marked_len = c.blank-marked.ensures;
+    }
 
 pub returns-then-list-count : goal.returns-then-list-count
 returns-then-list-count c =

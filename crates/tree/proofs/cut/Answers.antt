@@ -1,11 +1,10 @@
 -- The descendants are marked, and the range too if asked, before any place is stripped.
 use Rattle.tree.proofs.StripLaws.{left_cut}
-use borrow.Author.Rules.{rules}
 use Rattle.tree.proofs.cut.Goals as goal
 
 pub mark_below-requires : goal.mark_below-requires
 mark_below-requires c =
-    (c.requires, c.blank-marked.ensures)
+    record { sized = c.requires; marked_len = c.blank-marked.ensures }
 
 pub mark_range-requires : goal.mark_range-requires
 mark_range-requires c =
@@ -17,4 +16,4 @@ strip_marked-requires c =
 
 pub returns : goal.returns
 returns c =
-    left_cut _ _ _ _ c.args.self-too c.mark_below.ensures.0 c.mark_range.ensures c.strip_marked.ensures
+    left_cut _ _ _ _ c.args.self_too c.mark_below.ensures.0 c.mark_range.ensures c.strip_marked.ensures

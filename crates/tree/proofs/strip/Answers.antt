@@ -1,5 +1,4 @@
 -- What is stored at the place is what stripping leaves of it.
-use borrow.Author.Rules.{rules}
 use Rattle.tree.proofs.StripLaws.{strips_all, strips_some}
 use Rattle.tree.proofs.strip.Goals as goal
 

@@ -1,14 +1,7 @@
 -- The places below the loop's number, which is that of a marked place or past the last, are as stripping leaves them, and the others as they were.
-use Prim.Native.Nat.{◌-◌, ◌<◌, ◌≤◌}
-use mathlib.Core.Path.{◌≡◌, sym, ◌∙◌}
-use mathlib.Core.Bool.{true}
+use mathlib.Core.Path.{sym, ◌∙◌}
 use native.Mathlib.Omega.{arith}
-use Rattle.words.specs.Sizes.{places}
-use Rattle.interface.specs.Places.{cap_table}
-use Rattle.interface.specs.Effects.{stripped}
-use Rattle.marks.specs.PlaceBits.{bit_at}
-use Rattle.tree.proofs.MarkedLaws.{left_below, left_none, left_sized, left_more, left_all}
-use borrow.Author.Rules.{rules}
+use Rattle.tree.proofs.MarkedLaws.{left_none, left_sized, left_more, left_all}
 use Rattle.tree.proofs.strip_marked.Goals as goal
 
 pub loop-number-init : goal.loop-number-init

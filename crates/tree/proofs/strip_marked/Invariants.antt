@@ -1,14 +1,12 @@
 -- The places below the loop's number, which is that of a marked place or past the last, are as stripping leaves them, and the others as they were.
 use Prim.Native.Nat.{◌-◌, ◌<◌, ◌≤◌}
-use mathlib.Core.Path.{◌≡◌, sym, ◌∙◌}
+use mathlib.Core.Path.{◌≡◌}
 use mathlib.Core.Bool.{true}
-use native.Mathlib.Omega.{arith}
 use Rattle.words.specs.Sizes.{places}
 use Rattle.interface.specs.Places.{cap_table}
 use Rattle.interface.specs.Effects.{stripped}
 use Rattle.marks.specs.PlaceBits.{bit_at}
-use Rattle.tree.proofs.MarkedLaws.{left_below, left_none, left_sized, left_more, left_all}
-use borrow.Author.Rules.{rules}
+use Rattle.tree.proofs.MarkedLaws.{left_below}
 use Rattle.tree.proofs.strip_marked.Given as goal
 
 abbrev pub invariant-loop-number : goal.invariant-loop-number
