@@ -38,9 +38,8 @@ fn main() {
     println!("cargo:rerun-if-changed={}", archive.display());
     if !archive.is_file() {
         stop(format!(
-            "missing: {}\nrun `rt staticlib abi` at the root of the repository and copy \
-             target/staticlib/libabi.a to that name, or let RUDOZHEV_ARCHIVE name the directory \
-             that has librudozhev.a",
+            "missing: {}\nrun `./archive` at the root of the repository, or let RUDOZHEV_ARCHIVE name \
+             the directory that has librudozhev.a",
             archive.display()
         ));
     }
