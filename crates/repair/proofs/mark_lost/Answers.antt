@@ -9,6 +9,7 @@ use Rattle.marks.specs.PlaceBits.{mark_words}
 use Rattle.repair.proofs.MendLaws.{LostBelow, none_lost, lost_more, lost_all, CountedBelow, none_counted, counted_more, counted_same}
 use borrow.Author.Rules.{rules}
 use Rattle.repair.proofs.mark_lost.Goals as goal
+use Rattle.repair.proofs.mark_lost.Goals.{then-goes-is_live, else-goes-is_live}
 
 pub loop-at-init : goal.loop-at-init
 loop-at-init c =
@@ -45,21 +46,22 @@ loop-at-preserved c =
     let marked = lost_more _ _ _ inv.3 c.counted-place.ensures _ c.is_lost-goes.ensures c.set.ensures in
     let table = c.args.table.now in
     let links = c.args.links.now in
-    ⊎_elim
-    (λ w. (
-      omega arith,
-      omega (arith, w.1, inv.1),
-      longer,
-      marked,
-      (λ objects told. w.1 ∙ counted_more table links _ _ inv.4 c.counted-place.ensures _ c.is_lost-goes.ensures c.load.ensures _ c.is_live.ensures w.0.taken objects told),
-    ))
-    (λ w. (
-      omega arith,
-      omega (arith, w.1, inv.1),
-      longer,
-      marked,
-      (λ objects told. w.1 ∙ counted_same table links _ _ inv.4 c.counted-place.ensures _ c.is_lost-goes.ensures c.load.ensures _ c.is_live.ensures w.0.left objects told),
-    )) c.if-goes-is_live.branch
+    elim c.if-goes-is_live.branch [
+      | then-goes-is_live w ↦ (
+        omega arith,
+        omega (arith, w.count-is, inv.1),
+        longer,
+        marked,
+        (λ objects told. w.count-is ∙ counted_more table links _ _ inv.4 c.counted-place.ensures _ c.is_lost-goes.ensures c.load.ensures _ c.is_live.ensures w.if-goes-is_live.true objects told),
+      )
+      | else-goes-is_live w ↦ (
+        omega arith,
+        omega (arith, w.count-is, inv.1),
+        longer,
+        marked,
+        (λ objects told. w.count-is ∙ counted_same table links _ _ inv.4 c.counted-place.ensures _ c.is_lost-goes.ensures c.load.ensures _ c.is_live.ensures w.if-goes-is_live.false objects told),
+      )
+    ]
 
 pub returns : goal.returns
 returns c =
