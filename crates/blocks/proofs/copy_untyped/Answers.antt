@@ -2,7 +2,6 @@
 use mathlib.Core.Path.{◌∙◌}
 use native.Mathlib.Omega.{arith}
 use lib.ListN.{length-set}
-use borrow.Author.Rules.{rules}
 use Rattle.interface.specs.Basics.{word}
 use Rattle.blocks.proofs.BlockLaws.{counts_fit, is_copied}
 use Rattle.blocks.proofs.copy_untyped.Goals as goal

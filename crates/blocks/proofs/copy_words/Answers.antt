@@ -1,9 +1,8 @@
 -- The words before the loop's are copied.
-use Prim.Native.Nat.{◌+◌, ◌-◌, ◌≤◌}
 use mathlib.Core.Path.{◌≡◌, refl, sym}
 use native.Mathlib.Omega.{arith}
-use lib.ListN.{length, drop, length-set}
-use lib.Seq.{paste, paste-zero}
+use lib.ListN.{drop, length-set}
+use lib.Seq.{paste-zero}
 use Rattle.interface.specs.Message.{head_words}
 use Rattle.blocks.proofs.BlockLaws.{copied_more}
 use Rattle.blocks.proofs.copy_words.Goals as goal

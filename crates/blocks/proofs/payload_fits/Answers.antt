@@ -1,5 +1,4 @@
 -- The counts are the definition's.
-use borrow.Author.Rules.{rules}
 use Rattle.blocks.proofs.BlockLaws.{fits_counts}
 use Rattle.blocks.proofs.payload_fits.Goals as goal
 

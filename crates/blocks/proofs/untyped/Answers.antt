@@ -1,7 +1,6 @@
 -- The part has as many words as the count says, and a block has them where its counts fit.
 use mathlib.Core.Bool.{not}
 use mathlib.Core.Path.{ap}
-use borrow.Author.Rules.{rules}
 use Rattle.blocks.proofs.BlockLaws.{untyped_other_length, untyped_too_long, untyped_there, untyped_ends}
 use Rattle.blocks.proofs.untyped.Goals as goal
 

@@ -1,5 +1,4 @@
 -- The place's permissions have the bit, and what it names has the kind.
-use borrow.Author.Rules.{rules}
 use Rattle.capabilities.proofs.is_permitted.Goals as goal
 
 pub returns : goal.returns

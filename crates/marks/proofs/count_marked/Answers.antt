@@ -1,12 +1,8 @@
 -- The marked places of the words before the loop's are counted, and each word has no more than its bits.
-use Prim.Native.Nat.{◌-◌, ◌*◌, ◌≤◌}
-use mathlib.Core.Path.{◌≡◌}
 use native.Mathlib.Omega.{arith}
 use lib.Count.{ones-le}
-use lib.ListN.{length}
-use Rattle.marks.specs.PlaceBits.{word_bits, mark_words}
-use Rattle.marks.proofs.MarkedLaws.{marked_below, count_none, count_word_lem, count_all}
-use borrow.Author.Rules.{rules}
+use Rattle.marks.specs.PlaceBits.{word_bits}
+use Rattle.marks.proofs.MarkedLaws.{count_none, count_word_lem, count_all}
 use Rattle.marks.proofs.count_marked.Goals as goal
 
 pub loop-at-init : goal.loop-at-init

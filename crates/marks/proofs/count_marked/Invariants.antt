@@ -1,12 +1,9 @@
 -- The marked places of the words before the loop's are counted, and each word has no more than its bits.
 use Prim.Native.Nat.{◌-◌, ◌*◌, ◌≤◌}
 use mathlib.Core.Path.{◌≡◌}
-use native.Mathlib.Omega.{arith}
-use lib.Count.{ones-le}
 use lib.ListN.{length}
 use Rattle.marks.specs.PlaceBits.{word_bits, mark_words}
-use Rattle.marks.proofs.MarkedLaws.{marked_below, count_none, count_word_lem, count_all}
-use borrow.Author.Rules.{rules}
+use Rattle.marks.proofs.MarkedLaws.{marked_below}
 use Rattle.marks.proofs.count_marked.Given as goal
 
 abbrev pub invariant-loop-at : goal.invariant-loop-at

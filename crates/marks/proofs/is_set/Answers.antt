@@ -1,5 +1,4 @@
 -- The bit of the place's number.
-use borrow.Author.Rules.{rules}
 use Rattle.marks.specs.PlaceBits.{bit_at}
 use Rattle.marks.proofs.is_set.Goals as goal
 

@@ -1,12 +1,7 @@
 -- The list begins with the marked places below the loop's number, which is that of a marked place or past the last, and has room for the next of them.
-use Prim.Native.Nat.{◌-◌, ◌<◌, ◌≤◌}
-use mathlib.Core.Path.{◌≡◌, ◌∙◌}
-use mathlib.Core.Bool.{true}
+use mathlib.Core.Path.{◌∙◌}
 use native.Mathlib.Omega.{arith}
-use Rattle.words.specs.Sizes.{places}
-use Rattle.marks.specs.PlaceBits.{bit_at}
-use Rattle.marks.proofs.MarkedLaws.{Filled, filled_none, filled_room, filled_more, filled_all}
-use borrow.Author.Rules.{rules}
+use Rattle.marks.proofs.MarkedLaws.{filled_none, filled_room, filled_more, filled_all}
 use Rattle.marks.proofs.list_marked.Goals as goal
 
 pub loop-number-init : goal.loop-number-init

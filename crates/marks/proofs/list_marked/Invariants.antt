@@ -1,12 +1,10 @@
 -- The list begins with the marked places below the loop's number, which is that of a marked place or past the last, and has room for the next of them.
 use Prim.Native.Nat.{◌-◌, ◌<◌, ◌≤◌}
-use mathlib.Core.Path.{◌≡◌, ◌∙◌}
+use mathlib.Core.Path.{◌≡◌}
 use mathlib.Core.Bool.{true}
-use native.Mathlib.Omega.{arith}
 use Rattle.words.specs.Sizes.{places}
 use Rattle.marks.specs.PlaceBits.{bit_at}
-use Rattle.marks.proofs.MarkedLaws.{Filled, filled_none, filled_room, filled_more, filled_all}
-use borrow.Author.Rules.{rules}
+use Rattle.marks.proofs.MarkedLaws.{Filled}
 use Rattle.marks.proofs.list_marked.Given as goal
 
 abbrev pub invariant-loop-number : goal.invariant-loop-number

@@ -1,10 +1,7 @@
 -- The places of the range before the loop's offset are marked.
-use Prim.Native.Nat.{◌-◌, ◌≤◌}
 use mathlib.Core.Path.{◌∙◌}
 use native.Mathlib.Omega.{arith}
-use Rattle.marks.specs.PlaceBits.{RangeToo}
 use Rattle.marks.proofs.PlaceBitLaws.{range_none, range_more, range_all}
-use borrow.Author.Rules.{rules}
 use Rattle.marks.proofs.mark_range.Goals as goal
 
 pub loop-offset-init : goal.loop-offset-init

@@ -1,12 +1,7 @@
 -- No place from the first number up to the loop's is marked.
-use Prim.Native.Nat.{ℕ, ◌-◌, ◌<◌, ◌≤◌}
-use mathlib.Core.Path.{◌≡◌, refl}
-use mathlib.Core.Bool.{false}
+use mathlib.Core.Path.{refl}
 use native.Mathlib.Omega.{arith}
-use Rattle.words.specs.Sizes.{places}
-use Rattle.marks.specs.PlaceBits.{bit_at}
 use Rattle.marks.proofs.MarkedLaws.{rest_found, rest_passed}
-use borrow.Author.Rules.{rules}
 use Rattle.marks.proofs.next_marked.Goals as goal
 
 pub loop-number-init : goal.loop-number-init

@@ -1,12 +1,9 @@
 -- No place from the first number up to the loop's is marked.
 use Prim.Native.Nat.{ℕ, ◌-◌, ◌<◌, ◌≤◌}
-use mathlib.Core.Path.{◌≡◌, refl}
+use mathlib.Core.Path.{◌≡◌}
 use mathlib.Core.Bool.{false}
-use native.Mathlib.Omega.{arith}
 use Rattle.words.specs.Sizes.{places}
 use Rattle.marks.specs.PlaceBits.{bit_at}
-use Rattle.marks.proofs.MarkedLaws.{rest_found, rest_passed}
-use borrow.Author.Rules.{rules}
 use Rattle.marks.proofs.next_marked.Given as goal
 
 abbrev pub invariant-loop-number : goal.invariant-loop-number

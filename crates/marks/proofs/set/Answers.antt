@@ -1,7 +1,6 @@
 -- The word of the place's number is written with one more bit, or nothing is.
 use native.Mathlib.Omega.{arith}
 use Rattle.marks.proofs.PlaceBitLaws.{set_one, set_none}
-use borrow.Author.Rules.{rules}
 use Rattle.marks.proofs.set.Goals as goal
 
 pub returns-then-asked : goal.returns-then-asked

@@ -1,8 +1,7 @@
 -- The words of the record below the loop's index are cleared.
 use Prim.Native.Nat.{◌-◌, ◌≤◌}
-use borrow.Author.Rules.{rules}
 use Rattle.words.specs.Sizes.{record_words}
-use Rattle.objects.proofs.RecordTableLaws.{Cleared, cleared_none, cleared_more, cleared_all}
+use Rattle.objects.proofs.RecordTableLaws.{Cleared}
 use Rattle.objects.proofs.clear.Given as goal
 
 abbrev pub invariant-loop-index : goal.invariant-loop-index

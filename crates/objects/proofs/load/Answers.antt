@@ -1,6 +1,5 @@
 -- The word is read where the record has it.
 use native.Mathlib.Omega.{arith}
-use borrow.Author.Rules.{rules}
 use Rattle.objects.proofs.RecordTableLaws.{object_at_word}
 use Rattle.objects.proofs.load.Goals as goal
 

@@ -1,7 +1,6 @@
 -- The word is that of the record that the resource names, and there is none past the records.
 use mathlib.Core.Path.{sym, ap, ◌∙◌}
 use native.Mathlib.Omega.{arith}
-use borrow.Author.Rules.{rules}
 use Rattle.layout.proofs.NumberLaws.{numbered_inside, numbered_past}
 use Rattle.interface.specs.Places.{object_at}
 use Rattle.objects.proofs.RecordTableLaws.{object_at_end}

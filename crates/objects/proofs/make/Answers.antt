@@ -1,5 +1,4 @@
 -- The record is cleared, and then its words are stored in turn.
-use borrow.Author.Rules.{rules}
 use Rattle.objects.proofs.RecordTableLaws.{made}
 use Rattle.objects.proofs.make.Goals as goal
 

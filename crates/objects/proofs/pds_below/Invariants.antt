@@ -1,12 +1,8 @@
 -- The count is that of the PDs before the loop's record, and no greater than its number.
 use Prim.Native.Nat.{◌-◌, ◌≤◌}
-use mathlib.Core.Path.{◌≡◌, ◌∙◌}
-use mathlib.Core.Logic.{⊎_elim}
-use native.Mathlib.Omega.{arith}
-use borrow.Author.Rules.{rules}
+use mathlib.Core.Path.{◌≡◌}
 use Rattle.interface.specs.Damage.{pds_below}
 use Rattle.objects.specs.Records.{records_in}
-use Rattle.objects.proofs.CountingLaws.{no_pds, pds_more, pds_same}
 use Rattle.objects.proofs.pds_below.Given as goal
 
 abbrev pub invariant-loop-at : goal.invariant-loop-at

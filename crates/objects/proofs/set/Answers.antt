@@ -1,6 +1,5 @@
 -- The word is stored where the record has it.
 use native.Mathlib.Omega.{arith}
-use borrow.Author.Rules.{rules}
 use Rattle.objects.proofs.RecordTableLaws.{word_stored}
 use Rattle.objects.proofs.set.Goals as goal
 

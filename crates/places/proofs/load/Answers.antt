@@ -1,6 +1,5 @@
 -- The four words of a place lie below the table's length, and are what it shows.
 use native.Mathlib.Omega.{arith}
-use borrow.Author.Rules.{rules}
 use Rattle.places.proofs.CapTableLaws.{loaded}
 use Rattle.places.proofs.load.Goals as goal
 

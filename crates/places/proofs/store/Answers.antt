@@ -1,7 +1,6 @@
 -- The four words of a place lie below the table's length, and storing them puts the capability.
 use native.Mathlib.Omega.{arith}
 use lib.ListN.{length-set}
-use borrow.Author.Rules.{rules}
 use Rattle.places.proofs.CapTableLaws.{stored}
 use Rattle.places.proofs.store.Goals as goal
 

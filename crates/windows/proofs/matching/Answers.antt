@@ -1,5 +1,4 @@
 -- The item is read, and matched.
-use borrow.Author.Rules.{rules}
 use Rattle.windows.proofs.matching.Goals as goal
 
 pub returns : goal.returns

@@ -1,7 +1,6 @@
 -- The part that a delegation uses ends within its side.
 use native.Mathlib.Omega.{arith}
 use lib.Pow.{pow_pos}
-use borrow.Author.Rules.{rules}
 use Rattle.windows.proofs.WindowLaws.{offset_is, offset_ends}
 use Rattle.windows.proofs.offset.Goals as goal
 

@@ -1,5 +1,4 @@
 -- A word is read as it was kept.
-use borrow.Author.Rules.{rules}
 use Rattle.descriptor.proofs.DescriptorLaws.{reading_kept}
 use Rattle.windows.proofs.read.Goals as goal
 

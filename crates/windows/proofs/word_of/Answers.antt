@@ -1,6 +1,5 @@
 -- The range's own parts make its descriptor.
 use lib.Pow.{pow_pos}
-use borrow.Author.Rules.{rules}
 use Rattle.windows.proofs.WindowLaws.{made_proper}
 use Rattle.windows.proofs.word_of.Goals as goal
 
