@@ -1,4 +1,5 @@
-returns cuse Prim.Native.Nat.{ℕ}
+-- The checks are the rule's, in its order; the message goes from the caller's domain to the callee's.
+use Prim.Native.Nat.{ℕ}
 use mathlib.Core.Path.{◌≡◌, sym, ap, ◌∙◌}
 use mathlib.Core.Logic.{◌≢◌}
 use mathlib.Core.Bool.{true, not}
@@ -12,37 +13,15 @@ use Rattle.capabilities.proofs.CallerLaws.{sized_places, sized_objects, called_s
 use Rattle.delegation.proofs.LiveLinkLaws.{sound_live}
 use Rattle.portals.proofs.PortalLaws.{Lengths, Permitted, source_other, target_other, not_permitted, portal_record, callee_small, receiver_small, calls_itself, other_cpu, too_long, carries}
 use Rattle.portals.proofs.call.Goals as goal
-use Rattle.portals.proofs.call.Goals.{After-bound_by-callee, After-load-2, After-object_place-place, Else-is, Else-load, Else-not-is_permitted, Else-not-payload_fits, Start}
-
--- where the function starts, from each point that a law below speaks of
-abbrev of-place : After-object_place-place → Start
-of-place c = c
-
-abbrev of-portal : Else-not-is_permitted → Start
-of-portal c = of-place c.before.before
-
-abbrev of-ec : After-load-2 → Start
-of-ec c = of-portal c.before.before.before
-
-abbrev of-callee : After-bound_by-callee → Start
-of-callee c = of-ec c.before
-
-abbrev of_other : Else-is → Start
-of_other c = of-callee c.before.before
-
-abbrev of-same-cpu : Else-load → Start
-of-same-cpu c = of_other c.before.before.before
-
-abbrev of-fitting : Else-not-payload_fits → Start
-of-fitting c = of-same-cpu c.before.before.before
+use Rattle.portals.proofs.call.Goals.{After-bound_by-callee, After-load-2, After-object_place-place, Else-is, Else-load, Else-not-is_permitted, Else-not-payload_fits}
 
 -- the blocks have their lengths, and the place is the one that the call names
 lengths : (c : After-object_place-place) →
-    let given = (of-place c).args in
+    let given = c.args in
     Lengths given.places.now given.objects.now given.source.now given.target.now given.caller.0 given.selector c.object_place-place.result.0
 lengths c =
     record {
-      called = (of-place c).requires;
+      called = c.requires;
       source_length = omega arith;
       target_length = omega arith;
       is_place = rw c.domain-sender.ensures.0 at c.object_place-place.ensures.0;
@@ -50,44 +29,51 @@ lengths c =
 
 -- the place holds the portal with the permission
 allowed : (c : Else-not-is_permitted) →
-    let given = (of-portal c).args in
+    let given = c.args in
     permitted (view given.places.now given.objects.now) c.object_place-place.result.0 PT call_bit ≡ true
 allowed c = sym c.is_permitted.ensures ∙ not-false _ (ap not c.if-not-is_permitted.false)
 
 -- the call may use its portal, whose EC is read
 permits : (c : After-load-2) →
-    let given = (of-ec c).args in
+    let given = c.args in
     Permitted given.places.now given.objects.now given.source.now given.target.now given.caller.0 given.selector
     c.object_place-place.result.0 c.load-2.result
 permits c =
     record {
-      lengths = lengths c.before.before.before.before.before;
-      allowed = allowed c.before.before.before;
+      lengths = record {
+        called = c.requires;
+        source_length = omega arith;
+        target_length = omega arith;
+        is_place = rw c.domain-sender.ensures.0 at c.object_place-place.ensures.0;
+      };
+      allowed = sym c.is_permitted.ensures ∙ not-false _ (ap not c.if-not-is_permitted.false);
       is_callee =
           c.load-2.ensures ∙
-          ap (λ (n : ℕ). object_at (of-ec c).args.objects.now n ec_word)
+          ap (λ (n : ℕ). object_at c.args.objects.now n ec_word)
           (c.named_by-portal.ensures ∙ ap (λ (cap : Cap). cap.resource) c.load.ensures);
     }
 
 -- the callee
 has_callee : (c : After-bound_by-callee) →
-    let given = (of-callee c).args in
+    let given = c.args in
+    Permitted given.places.now given.objects.now given.source.now given.target.now given.caller.0 given.selector
+    c.object_place-place.result.0 c.load-2.result →
     Permitted given.places.now given.objects.now given.source.now given.target.now given.caller.0 given.selector
     c.object_place-place.result.0 c.bound_by-callee.result.0
-has_callee c = rw c.bound_by-callee.ensures (permits c.before)
+has_callee c may_use = rw c.bound_by-callee.ensures may_use
 
 -- it is not the caller
-apart : (c : Else-is) → c.bound_by-callee.result.0 ≢ (of_other c).args.caller.0
+apart : (c : Else-is) → c.bound_by-callee.result.0 ≢ c.args.caller.0
 apart c = eqb-false _ _ (sym c.is.ensures ∙ c.if-is.false)
 
 -- both are on one CPU
 one_cpu : (c : Else-load) →
-    let objects = (of-same-cpu c).args.objects.now in
-    object_at objects c.bound_by-callee.result.0 cpu_word ≡ object_at objects (of-same-cpu c).args.caller.0 cpu_word
+    let objects = c.args.objects.now in
+    object_at objects c.bound_by-callee.result.0 cpu_word ≡ object_at objects c.args.caller.0 cpu_word
 one_cpu c = sym c.load-3.ensures ∙ c.if-load.false ∙ c.load-4.ensures
 
 -- the counts fit
-fits : (c : Else-not-payload_fits) → payload_fits (word (of-fitting c).args.source.now 0) ≡ true
+fits : (c : Else-not-payload_fits) → payload_fits (word c.args.source.now 0) ≡ true
 fits c = sym c.payload_fits.ensures ∙ not-false _ (ap not c.if-not-payload_fits.false)
 
 pub returns-then-source-ne-BLOCK_WORDS : goal.returns-then-source-ne-BLOCK_WORDS
@@ -98,35 +84,41 @@ returns-then-target-ne-BLOCK_WORDS c = target_other c.requires (search rules) c.
 
 pub is_permitted-requires : goal.is_permitted-requires
 is_permitted-requires c =
-    let called = (of-place (goal.at.is_permitted-requires c).After-object_place-place).requires in (sized_places called, sized_objects called, c.object_place-place.ensures.1, omega arith)
+    let called = c.requires in (sized_places called, sized_objects called, c.object_place-place.ensures.1, omega arith)
 
 pub returns-then-not-is_permitted : goal.returns-then-not-is_permitted
 returns-then-not-is_permitted c = not_permitted (lengths (goal.at.returns-then-not-is_permitted c).After-object_place-place) (sym c.is_permitted.ensures ∙ not-true _ (ap not c.if-not-is_permitted.true))
 
 pub load-requires : goal.load-requires
-load-requires c = (sized_places (of-portal (goal.at.load-requires c).Else-not-is_permitted).requires, c.object_place-place.ensures.1)
+load-requires c = (sized_places c.requires, c.object_place-place.ensures.1)
 
 pub named_by-portal-requires : goal.named_by-portal-requires
 named_by-portal-requires c = portal_record (lengths (goal.at.named_by-portal-requires c).After-object_place-place) (allowed (goal.at.named_by-portal-requires c).Else-not-is_permitted) c.load.ensures
 
 pub load-requires-2 : goal.load-requires-2
-load-requires-2 c = (sized_objects (of-portal (goal.at.load-requires-2 c).Else-not-is_permitted).requires, rw c.named_by-portal.ensures (named-by-requires c _), omega arith)
+load-requires-2 c = (
+  sized_objects c.requires,
+  rw c.named_by-portal.ensures
+      (portal_record (lengths (goal.at.load-requires-2 c).After-object_place-place) (allowed (goal.at.load-requires-2 c).Else-not-is_permitted)
+      c.load.ensures),
+  omega arith,
+)
 
 pub bound_by-callee-requires : goal.bound_by-callee-requires
 bound_by-callee-requires c = callee_small (permits (goal.at.bound_by-callee-requires c).After-load-2)
 
 pub returns-then-is : goal.returns-then-is
-returns-then-is c = calls_itself (has_callee (goal.at.returns-then-is c).After-bound_by-callee) (eqb-true _ _ (sym c.is.ensures ∙ c.if-is.true))
+returns-then-is c = calls_itself (has_callee (goal.at.returns-then-is c).After-bound_by-callee (permits (goal.at.returns-then-is c).After-load-2)) (eqb-true _ _ (sym c.is.ensures ∙ c.if-is.true))
 
 pub load-requires-3 : goal.load-requires-3
-load-requires-3 c = (sized_objects (of_other (goal.at.load-requires-3 c).Else-is).requires, callee_small (has_callee (goal.at.load-requires-3 c).After-bound_by-callee), omega arith)
+load-requires-3 c = (sized_objects c.requires, callee_small (has_callee (goal.at.load-requires-3 c).After-bound_by-callee (permits (goal.at.load-requires-3 c).After-load-2)), omega arith)
 
 pub load-requires-4 : goal.load-requires-4
-load-requires-4 c = (sized_objects (of_other (goal.at.load-requires-4 c).Else-is).requires, caller_small (of_other (goal.at.load-requires-4 c).Else-is).requires, omega arith)
+load-requires-4 c = (sized_objects c.requires, caller_small c.requires, omega arith)
 
 pub returns-then-load : goal.returns-then-load
 returns-then-load c =
-    other_cpu (has_callee (goal.at.returns-then-load c).After-bound_by-callee) (apart (goal.at.returns-then-load c).Else-is)
+    other_cpu (has_callee (goal.at.returns-then-load c).After-bound_by-callee (permits (goal.at.returns-then-load c).After-load-2)) (apart (goal.at.returns-then-load c).Else-is)
     (λ same. c.if-load.true (c.load-3.ensures ∙ same ∙ sym c.load-4.ensures))
 
 pub bounds-source-0 : goal.bounds-source-0
@@ -134,16 +126,16 @@ bounds-source-0 c = omega (arith, (lengths (goal.at.bounds-source-0 c).After-obj
 
 pub returns-then-not-payload_fits : goal.returns-then-not-payload_fits
 returns-then-not-payload_fits c =
-    too_long (has_callee (goal.at.returns-then-not-payload_fits c).After-bound_by-callee) (apart (goal.at.returns-then-not-payload_fits c).Else-is) (one_cpu (goal.at.returns-then-not-payload_fits c).Else-load)
+    too_long (has_callee (goal.at.returns-then-not-payload_fits c).After-bound_by-callee (permits (goal.at.returns-then-not-payload_fits c).After-load-2)) (apart (goal.at.returns-then-not-payload_fits c).Else-is) (one_cpu (goal.at.returns-then-not-payload_fits c).Else-load)
     (sym c.payload_fits.ensures ∙ not-true _ (ap not c.if-not-payload_fits.true))
 
 pub load-receiver-requires : goal.load-receiver-requires
-load-receiver-requires c = (sized_objects (of-fitting (goal.at.load-receiver-requires c).Else-not-payload_fits).requires, callee_small (has_callee (goal.at.load-receiver-requires c).After-bound_by-callee), omega arith)
+load-receiver-requires c = (sized_objects c.requires, callee_small (has_callee (goal.at.load-receiver-requires c).After-bound_by-callee (permits (goal.at.load-receiver-requires c).After-load-2)), omega arith)
 
 pub message-requires : goal.message-requires
 message-requires c =
-    let called = (of-fitting (goal.at.message-requires c).Else-not-payload_fits).requires in
-    let callee = has_callee (goal.at.message-requires c).After-bound_by-callee in (
+    let called = c.requires in
+    let callee = has_callee (goal.at.message-requires c).After-bound_by-callee (permits (goal.at.message-requires c).After-load-2) in (
       sized_places called,
       sound_live _ (called_sound called),
       c.domain-sender.ensures.1,
@@ -153,5 +145,5 @@ message-requires c =
 
 pub returns : goal.returns
 returns c =
-    carries (has_callee (goal.at.returns c).After-bound_by-callee) (apart (goal.at.returns c).Else-is) (one_cpu (goal.at.returns c).Else-load) (fits (goal.at.returns c).Else-not-payload_fits) c.domain-sender.ensures.0
+    carries (has_callee (goal.at.returns c).After-bound_by-callee (permits (goal.at.returns c).After-load-2)) (apart (goal.at.returns c).Else-is) (one_cpu (goal.at.returns c).Else-load) (fits (goal.at.returns c).Else-not-payload_fits) c.domain-sender.ensures.0
     c.load-receiver.ensures c.message.ensures

@@ -1,5 +1,4 @@
 -- The test is the definition's: what the mask keeps of the greatest permissions of the range's space.
-use borrow.Author.Rules.{rules}
 use Rattle.revocation.proofs.RevokeLaws.{keeps_none}
 use Rattle.revocation.proofs.mask_is_outside.Goals as goal
 

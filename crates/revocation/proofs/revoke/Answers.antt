@@ -1,22 +1,24 @@
-returns-else-mask_is_outside c call is_caller is_first is_seconduse mathlib.Core.Path.{◌≡◌, sym, ◌∙◌}
+-- The reply and the tables are the rule's for each self word, each reading of the descriptor and each mask; the places cut are the range's in the caller's domain.
+use mathlib.Core.Path.{◌≡◌, sym, ◌∙◌}
 use native.Mathlib.Omega.{arith}
 use lib.Pow.{pow_pos}
-use borrow.Author.Rules.{rules}
+use Rattle.descriptor.specs.declared.Range.{Range}
+use Rattle.descriptor.specs.declared.Reading.TheVariants.{Good}
 use Rattle.descriptor.specs.Descriptors.{Proper, reading}
 use Rattle.descriptor.proofs.DescriptorLaws.{reading_kept, good_proper, proper_order}
 use Rattle.descent.proofs.LinkLaws.{sound_linked}
 use Rattle.capabilities.proofs.CallerLaws.{sized_places, called_sound}
 use Rattle.revocation.proofs.RevokeLaws.{Aimed, aims, range_in_space, self_refused, malformed_refused, null_revokes, mask_refused, range_revokes}
 use Rattle.revocation.proofs.revoke.Goals as goal
-use Rattle.revocation.proofs.revoke.Goals.{After-mask, After-read, In-Good-2}
+use Rattle.revocation.proofs.revoke.Goals.{After-mask, After-read}
 
 -- what is read is what the descriptor says
 is_reading : (c : After-read) → reading c.args.descriptor ≡ c.read.result
 is_reading c = sym (rw (c.from_word.ensures, reading_kept) at c.read.ensures)
 
 -- a range that is read is a proper one
-is_proper : (c : In-Good-2) → Proper c.in-Good.range
-is_proper c = good_proper _ _ (is_reading c.before.before ∙ c.in-Good.is)
+is_proper : (c : After-read) {range : Range} → c.read.result ≡ Good range → Proper range
+is_proper c is_good = good_proper _ _ (is_reading c ∙ is_good)
 
 -- the range's places and mask, as the code finds them
 is_aimed : (c : After-mask) →
@@ -35,24 +37,24 @@ returns-then-mask_is_outside c call is_caller is_first is_second =
     c.mask_is_outside.ensures c.if-mask_is_outside.true call is_first is_second
 
 pub at-requires : goal.at-requires
-at-requires c = (is_proper (goal.at.at-requires c).In-Good-2, pow_pos _)
+at-requires c = (is_proper (goal.at.at-requires c).After-read c.in-Good.is, pow_pos _)
 
 pub of-first-requires : goal.of-first-requires
 of-first-requires c = (
   c.domain-domain.ensures.1,
-  omega (arith, c.space-space.ensures, (is_proper (goal.at.of-first-requires c).In-Good-2).space_small),
+  omega (arith, c.space-space.ensures, (is_proper (goal.at.of-first-requires c).After-read c.in-Good.is).space_small),
   rw c.space-space.ensures c.at.ensures.1,
 )
 
 pub size-size-requires : goal.size-size-requires
-size-size-requires c = omega (arith, c.order.ensures, proper_order (is_proper (goal.at.size-size-requires c).In-Good-2))
+size-size-requires c = omega (arith, c.order.ensures, proper_order (is_proper (goal.at.size-size-requires c).After-read c.in-Good.is))
 
 pub cut-requires : goal.cut-requires
 cut-requires c =
     let called = c.requires in (
       sized_places called,
       sound_linked _ (called_sound called),
-      range_in_space (is_aimed (goal.at.cut-requires c).After-mask) (is_proper (goal.at.cut-requires c).In-Good-2) c.domain-domain.ensures.1,
+      range_in_space (is_aimed (goal.at.cut-requires c).After-mask) (is_proper (goal.at.cut-requires c).After-read c.in-Good.is) c.domain-domain.ensures.1,
     )
 
 pub returns-in-Null : goal.returns-in-Null

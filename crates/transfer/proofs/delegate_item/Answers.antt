@@ -1,6 +1,5 @@
 -- The item is null where no place was filled, and shows the destination otherwise.
 use native.Mathlib.Omega.{arith}
-use borrow.Author.Rules.{rules}
 use Rattle.transfer.proofs.ItemLaws.{delegated_none, delegated_some}
 use Rattle.transfer.proofs.delegate_item.Goals as goal
 

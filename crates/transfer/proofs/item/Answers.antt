@@ -1,5 +1,4 @@
 -- The item is delegated or translated as its second word says, and null where its descriptors do not match.
-use borrow.Author.Rules.{rules}
 use Rattle.windows.proofs.WindowLaws.{is_matched}
 use Rattle.transfer.proofs.ItemLaws.{delegated_null, delegated_both, translated_null, translated_both}
 use Rattle.transfer.proofs.item.Goals as goal

@@ -1,10 +1,6 @@
 -- The table, the count and the upper words are those after the items before the loop's.
 use Prim.Native.Nat.{◌-◌}
-use mathlib.Core.Path.{sym, ◌∙◌}
-use native.Mathlib.Omega.{arith}
-use borrow.Author.Rules.{rules}
-use lib.ListN.{length-set}
-use Rattle.transfer.proofs.MovedLaws.{Moving, moving_begins, moving_on, moving_ends}
+use Rattle.transfer.proofs.MovedLaws.{Moving}
 use Rattle.transfer.proofs.items.Given as goal
 
 abbrev pub invariant-loop-i : goal.invariant-loop-i

@@ -1,6 +1,5 @@
 -- The items' transfer over the upper words, put back above the lower ones, is the message's.
 use mathlib.Core.Path.{refl}
-use borrow.Author.Rules.{rules}
 use Rattle.transfer.proofs.MovedLaws.{upper_begins, items_ready, message_done}
 use Rattle.transfer.proofs.message.Goals as goal
 

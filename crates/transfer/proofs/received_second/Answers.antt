@@ -1,6 +1,5 @@
 -- A reason's number is at most 5.
 use native.Mathlib.Omega.{arith}
-use borrow.Author.Rules.{rules}
 use Rattle.descriptor.proofs.DescriptorLaws.{why_most}
 use Rattle.transfer.proofs.received_second.Goals as goal
 

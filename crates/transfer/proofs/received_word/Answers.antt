@@ -1,6 +1,5 @@
 -- A range that is shown is proper.
 use mathlib.Core.Path.{sym, ap, ◌∙◌}
-use borrow.Author.Rules.{rules}
 use Rattle.interface.specs.Message.{received_word}
 use Rattle.transfer.proofs.received_word.Goals as goal
 
