@@ -284,8 +284,8 @@ class Function:
                 continue
             text = text.replace(name, new, 1) if len(clauses) == 1 else re.sub(r"(?m)^" + re.escape(name) + r"(?=\s)", new, text)
             text = re.sub(r"^(" + re.escape(new) + r" c) κs(?= )", r"\1", text)
-            head, eq, body = text.partition(" =")
-            text = head + eq + self.flat(body, {"c": "c"}, new)
+            left, eq, body = text.partition(" =")
+            text = left + eq + self.flat(body, {"c": "c"}, new)
             text = re.sub(r"(\bc\.(?:if|loop|in)[\w.-]*?)\.taken\b", r"\1.true", text)
             text = re.sub(r"(\bc\.(?:if|loop|in)[\w.-]*?)\.left\b", r"\1.false", text)
             out_a.append(comment + f"pub {new} : goal.{new}\n" + middle + text.rstrip() + "\n\n")

@@ -8,8 +8,8 @@ use Rattle.interface.specs.Boot.{root_ec, exc}
 use Rattle.interface.specs.Verdicts.{CREATE_PD}
 use Rattle.requests.specs.Requests.{Asked, without_message}
 
-module _ (places objects places_after_lem objects_after_lem : List ℕ) (reply : Reply) where
+module _ (places objects places_after objects_after : List ℕ) (reply : Reply) where
   -- a new domain that starts with nothing: its initial descriptor is the null one
-  pub asked_empty : (selector initial : ℕ) → initial ≡ null → Asked places objects places_after_lem objects_after_lem reply (without_message CREATE_PD root_ec selector exc initial) →
-      Asked places objects places_after_lem objects_after_lem reply (without_message CREATE_PD root_ec selector exc null)
+  pub asked_empty : (selector initial : ℕ) → initial ≡ null → Asked places objects places_after objects_after reply (without_message CREATE_PD root_ec selector exc initial) →
+      Asked places objects places_after objects_after reply (without_message CREATE_PD root_ec selector exc null)
   asked_empty selector initial is_null ran = rw is_null at ran

@@ -9,8 +9,8 @@ use Rattle.interface.specs.Demand.{whole_mask}
 
 -- a request that was made: its reply and both tables after it are those that the rules give for a call
 abbrev pub Asked : List ℕ → List ℕ → List ℕ → List ℕ → Reply → Call → Type 0
-Asked places objects places_after_lem objects_after_lem reply call =
-    record { reply = reply; tables = tables places_after_lem objects_after_lem } ≡ answered (tables places objects) call
+Asked places objects places_after objects_after reply call =
+    record { reply = reply; tables = tables places_after objects_after } ≡ answered (tables places objects) call
 
 -- a range with a mask
 abbrev pub masked_range : ℕ → ℕ → ℕ → ℕ → Range

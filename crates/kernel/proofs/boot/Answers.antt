@@ -1,7 +1,6 @@
 -- The tables are boot's, from which every sequence of events starts.
-use borrow.Author.Rules.{rules}
 use Rattle.kernel.proofs.FaceLaws.{from_boot_lem}
 use Rattle.kernel.proofs.boot.Goals as goal
 
 pub returns : goal.returns
-returns c = search (from_boot_lem, rules)
+returns c = record { booted = c.boot.ensures; objects_after = (from_boot_lem c.boot.ensures).1 }

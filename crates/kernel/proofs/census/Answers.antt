@@ -1,4 +1,5 @@
-returns cuse mathlib.Core.Path.{ap}
+-- The census of damaged tables is refused, and that of sound ones is the tree's.
+use mathlib.Core.Path.{ap}
 use mathlib.Core.Path.{◌≡◌, sym, ◌∙◌}
 use mathlib.Core.Bool.{true, not}
 use borrow.Author.Tests.{not-true, not-false}
@@ -16,10 +17,14 @@ undamaged : (c : Else-not-is_sound) →
 undamaged c = sym c.is_sound.ensures ∙ not-false _ (ap not c.if-not-is_sound.false)
 
 pub returns-then-not-is_sound : goal.returns-then-not-is_sound
-returns-then-not-is_sound c = showing_heirs _ _ _ _ (census_refused _ _ _ _ (sym c.is_sound.ensures ∙ not-true _ (ap not c.if-not-is_sound.true)))
+returns-then-not-is_sound c =
+    let refused = census_refused _ _ _ _ (sym c.is_sound.ensures ∙ not-true _ (ap not c.if-not-is_sound.true)) in
+    record { list_after = refused; shows_heirs = (showing_heirs _ _ _ _ refused).1 }
 
 pub census-requires : goal.census-requires
 census-requires c = let t = undamaged (goal.at.census-requires c).Else-not-is_sound in (census_lengths _ _ t, census_links _ _ t)
 
 pub returns : goal.returns
-returns c = showing_heirs _ _ _ _ (census_counted _ _ _ _ (undamaged (goal.at.returns c).Else-not-is_sound) _ c.census.ensures)
+returns c =
+    let counted = census_counted _ _ _ _ (undamaged (goal.at.returns c).Else-not-is_sound) _ c.census.ensures in
+    record { list_after = counted; shows_heirs = (showing_heirs _ _ _ _ counted).1 }

@@ -1,4 +1,5 @@
-returns cuse mathlib.Core.Path.{sym, ◌∙◌}
+-- Sound tables are served, and damaged ones refused.
+use mathlib.Core.Path.{sym, ◌∙◌}
 use borrow.Author.Rules.{rules}
 use Rattle.interface.specs.Verdicts.{Call}
 use Rattle.interface.specs.Outcomes.{call_of}
@@ -17,9 +18,10 @@ pub serve-requires : goal.serve-requires
 serve-requires c = sym c.is_sound.ensures ∙ c.if-is_sound.true
 
 pub returns-then-is_sound : goal.returns-then-is_sound
-returns-then-is_sound c = going_on _ _ _ c.serve.ensures.0
+returns-then-is_sound c = record { target_after = c.serve.ensures.serves; goes_on = (going_on _ _ _ c.serve.ensures.serves).1 }
 
 pub returns : goal.returns
 returns c =
     let by = call_by (goal.at.returns c).Start in
-    going_on _ by _ (damaged_outcome _ _ by (sym c.is_sound.ensures ∙ c.if-is_sound.false))
+    let refused = damaged_outcome _ _ by (sym c.is_sound.ensures ∙ c.if-is_sound.false) in
+    record { target_after = refused; goes_on = (going_on _ by _ refused).1 }
