@@ -1,4 +1,5 @@
-returns cuse mathlib.Core.Path.{ap}
+-- Who is admitted is decided by the call's number, the caller's number and the kind of its record.
+use mathlib.Core.Path.{ap}
 use mathlib.Core.Path.{◌≡◌, sym, ◌∙◌}
 use mathlib.Core.Bool.{true, not}
 use native.Mathlib.Omega.{arith}

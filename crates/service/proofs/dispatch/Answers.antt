@@ -1,4 +1,5 @@
-returns-in_default cuse mathlib.Core.Path.{refl}
+-- Each number's call comes to what its rule says, and any other number is refused.
+use mathlib.Core.Path.{refl}
 use native.Mathlib.Omega.{arith}
 use borrow.Author.Rules.{rules}
 use Rattle.interface.specs.Verdicts.{Call}
