@@ -1,6 +1,5 @@
 -- Who is not admitted is refused, and who is gets what the rule says.
 use mathlib.Core.Path.{sym, ◌∙◌}
-use borrow.Author.Rules.{rules}
 use Rattle.interface.specs.Verdicts.{Call}
 use Rattle.service.specs.Serving.{call_with}
 use Rattle.service.proofs.AdmissionLaws.{served, not_admitted, admitted_caller, admitted_ec}
