@@ -4,4 +4,4 @@ use borrow.Author.Rules.{rules}
 use Rattle.abi.proofs.rudozhev_boot.Goals as goal
 
 pub returns : goal.returns
-returns c = boots c.boot.ensures.0 c.pack.ensures
+returns c = boots c.boot.ensures.booted c.pack.ensures

@@ -4,4 +4,4 @@ use borrow.Author.Rules.{rules}
 use Rattle.abi.proofs.rudozhev_census.Goals as goal
 
 pub returns : goal.returns
-returns c = counts c.census.ensures.0 c.pack.ensures
+returns c = counts c.census.ensures.list_after c.pack.ensures

@@ -4,4 +4,4 @@ use borrow.Author.Rules.{rules}
 use Rattle.abi.proofs.rudozhev_hypercall.Goals as goal
 
 pub returns : goal.returns
-returns c = calls c.hypercall.ensures.0 c.pack.ensures
+returns c = calls c.hypercall.ensures.target_after c.pack.ensures

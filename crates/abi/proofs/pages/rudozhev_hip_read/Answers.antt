@@ -8,12 +8,12 @@ use Rattle.abi.proofs.pages.rudozhev_hip_read.Goals as goal
 pub overflow_mul-result : goal.overflow_mul-result
 overflow_mul-result c = let bytes = c.args.page.now in
     let page = accepts bytes _ _ c.read-found.ensures c.in-Accepted.is in
-    omega (arith, page, short_page bytes _ (λ i. c.type_inv.page i) page)
+    omega (arith, page, short_page bytes _ (λ i. (c.type_inv.page i).fits) page)
 
 pub overflow_add-result : goal.overflow_add-result
 overflow_add-result c = let bytes = c.args.page.now in
     let page = accepts bytes _ _ c.read-found.ensures c.in-Accepted.is in
-    omega (arith, page, short_page bytes _ (λ i. c.type_inv.page i) page)
+    omega (arith, page, short_page bytes _ (λ i. (c.type_inv.page i).fits) page)
 
 pub returns-in-Refused : goal.returns-in-Refused
 returns-in-Refused c = let start = c.args in
