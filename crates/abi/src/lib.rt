@@ -4,9 +4,8 @@
 
 pub mod pages;
 
-ghost use Rattle.std.specs.Prelude.{◌≡◌, length};
+ghost use Rattle.std.specs.Prelude.{◌≡◌, length, if◌then◌else◌};
 ghost use Rattle.interface.specs.Places.{tables};
-ghost use Rattle.interface.specs.Basics.{if◌then◌else◌};
 ghost use Rattle.interface.specs.Damage.{sound, fault};
 ghost use Rattle.interface.specs.Message.{untyped_part};
 ghost use Rattle.interface.specs.Census.{census_of};

@@ -12,7 +12,8 @@ use Rattle.layout.specs.declared.FoundObject.{FoundObject}
 use Rattle.layout.specs.declared.FoundObject.TheVariants.{Numbered, Beyond}
 use Rattle.layout.specs.Numbers.{link_of, numbered}
 use Rattle.layout.proofs.NumberLaws.{numbered_so}
-use Rattle.interface.specs.Basics.{if◌then◌else◌, word}
+use Rattle.std.specs.Prelude.{if◌then◌else◌}
+use Rattle.interface.specs.Basics.{word}
 use Rattle.interface.specs.Places.{Cap, nothing, parentless, free, PD, EC, SC, SM, kind_word, greatest}
 use Rattle.interface.specs.Boot.{hypervisor, root, cpus, root_pd, root_ec, root_sc, root_objects, exc, root_priority, root_quantum, no_ec, information_page, information_permissions, utcb_page, utcb_permissions, boot_record, boot_object, hypervisor_cap, lent_to_root, root_memory, root_cap, boot_cap}
 use Rattle.interface.proofs.Basics.BoolLaws.{cases, and_left, and_right}

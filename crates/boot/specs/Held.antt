@@ -1,9 +1,8 @@
 -- Which object a domain holds at an object selector at boot, and the capability for it.
-use Rattle.std.specs.Prelude.{ℕ, ◌+◌, ◌-◌, ◌&&◌, leb, ltb}
+use Rattle.std.specs.Prelude.{ℕ, ◌+◌, ◌-◌, ◌&&◌, leb, ltb, if◌then◌else◌}
 use Rattle.layout.specs.declared.FoundObject.{FoundObject}
 use Rattle.layout.specs.declared.FoundObject.TheVariants.{Numbered, Beyond}
 use Rattle.layout.specs.Numbers.{numbered}
-use Rattle.interface.specs.Basics.{if◌then◌else◌}
 use Rattle.interface.specs.Places.{Cap, nothing}
 use Rattle.interface.specs.Boot.{root_pd, root_objects, exc, boot_object}
 

@@ -10,7 +10,8 @@ use Rattle.words.specs.Sizes.{domains, selectors, place_of}
 use Rattle.words.specs.Ranges.{rounded}
 use Rattle.words.proofs.PlaceLaws.{is_place, space_back}
 use Rattle.descriptor.specs.declared.Range.{Range}
-use Rattle.interface.specs.Basics.{if◌then◌else◌, listed}
+use Rattle.std.specs.Prelude.{if◌then◌else◌}
+use Rattle.interface.specs.Basics.{listed}
 use Rattle.interface.specs.Places.{State, cap_at, cap_table, places_in}
 use Rattle.interface.specs.Effects.{Effect, give, fills, given_caps, act, run, fills_one, filled}
 use Rattle.interface.specs.Message.{smaller_order, raised_base, delegations}

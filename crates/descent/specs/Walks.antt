@@ -1,7 +1,7 @@
 -- Walks along the parent links of a place table.
-use Rattle.std.specs.Prelude.{ℕ, ◌≤◌, suc, ◌+◌, ◌<◌, ◌≡◌, Bool, ◌&&◌, eqb, length, List, [], ◌∷◌}
+use Rattle.std.specs.Prelude.{ℕ, ◌≤◌, suc, ◌+◌, ◌<◌, ◌≡◌, Bool, ◌&&◌, eqb, length, List, [], ◌∷◌, if◌then◌else◌}
 use Rattle.words.specs.Sizes.{places, space_of}
-use Rattle.interface.specs.Basics.{if◌then◌else◌, all_below}
+use Rattle.interface.specs.Basics.{all_below}
 use Rattle.interface.specs.Places.{Cap, cap_at}
 use Rattle.interface.specs.Effects.{among, below}
 use Rattle.marks.specs.PlaceBits.{mark_words, bit_at}

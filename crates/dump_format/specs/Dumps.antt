@@ -1,11 +1,10 @@
 -- Dumps: both tables as bytes, the line that is printed of a dump, and the whole output. Sections 17.2, 17.3 and 17.7 of the manual.
-use Rattle.std.specs.Prelude.{ℕ, ◌+◌, ◌*◌, List, [], ◌∷◌, ◌++◌, leb, ltb, length}
+use Rattle.std.specs.Prelude.{ℕ, ◌+◌, ◌*◌, List, [], ◌∷◌, ◌++◌, leb, ltb, length, if◌then◌else◌}
 use Rattle.endian.specs.Parts.{written}
 use Rattle.endian.specs.Numbers.{bytes_of}
 use Rattle.endian.specs.Runs.{bytes_of_each, numbers_at}
 use Rattle.reply.specs.declared.Fault.{Fault}
 use Rattle.reply.specs.declared.Fault.TheVariants.{NoFault, Lengths, AtRecord, AtPlace}
-use Rattle.interface.specs.Basics.{if◌then◌else◌}
 use Rattle.interface.specs.Places.{Tables, place_table_words, object_table_words}
 use Rattle.interface.specs.Damage.{fault}
 use Rattle.interface.specs.Journal.{decimal, newline}

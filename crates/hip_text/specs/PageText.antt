@@ -1,8 +1,7 @@
 -- The text of an information page, line by line: section 16.9 of the manual.
-use Rattle.std.specs.Prelude.{ℕ, zero, suc, ◌+◌, ◌-◌, ◌≤◌, ◌<◌, ◌≡◌, eqb, ℤ, pos, negsuc, length, take, drop, replicate}
+use Rattle.std.specs.Prelude.{ℕ, zero, suc, ◌+◌, ◌-◌, ◌≤◌, ◌<◌, ◌≡◌, eqb, ℤ, pos, negsuc, length, take, drop, replicate, if◌then◌else◌}
 use mathlib.Core.List.{List, [], ◌∷◌, ◌++◌, flatten}
 use Rattle.endian.specs.Parts.{written}
-use Rattle.interface.specs.Basics.{if◌then◌else◌}
 use Rattle.interface.specs.Journal.{decimal, blank, newline}
 use Rattle.hip_format.specs.Reader.{checksum_field, Judgement, refused, accepted, judged}
 use Rattle.hip_format.specs.declared.Header.{Header}

@@ -1,7 +1,7 @@
 -- Boot: what the tables show when the controller starts.
-use Rattle.std.specs.Prelude.{ℕ, ◌+◌, ◌-◌, ◌&&◌, List, [], ◌∷◌, eqb, leb, ltb}
+use Rattle.std.specs.Prelude.{ℕ, ◌+◌, ◌-◌, ◌&&◌, List, [], ◌∷◌, eqb, leb, ltb, if◌then◌else◌}
 use Rattle.words.specs.Sizes.{memory, object, place_of, domain_of, space_of, selector_of, records}
-use Rattle.interface.specs.Basics.{if◌then◌else◌, word}
+use Rattle.interface.specs.Basics.{word}
 use Rattle.interface.specs.Places.{Cap, State, nothing, parentless, free, PD, EC, SC, SM, kind_word, greatest}
 
 -- the hypervisor's domain and the root's

@@ -1,9 +1,9 @@
 -- The census of a place: its strict descendants.
-use Rattle.std.specs.Prelude.{ℕ, List, ◌++◌, leb, ltb, length, drop}
+use Rattle.std.specs.Prelude.{ℕ, List, ◌++◌, leb, ltb, length, drop, if◌then◌else◌}
 use Rattle.words.specs.Sizes.{places}
 use Rattle.reply.specs.declared.Reply.{Reply}
 use Rattle.reply.specs.declared.Reply.TheVariants.{Success, Damaged, BadPar, BadCap, Short}
-use Rattle.interface.specs.Basics.{if◌then◌else◌, gather}
+use Rattle.interface.specs.Basics.{gather}
 use Rattle.interface.specs.Places.{Cap, State, Tables, live, shown}
 use Rattle.interface.specs.Damage.{sound}
 use Rattle.interface.specs.Effects.{below}

@@ -1,5 +1,5 @@
 -- What else follows from the rules: each statement under one sentence.
-use Rattle.std.specs.Prelude.{ℕ, ◌+◌, ◌^◌, ◌≤◌, ◌<◌, ◌≡◌, ◌↔◌, ◌⊎◌, Bool, true, false, not, ◌||◌, ◌&&◌, List, [], ◌∷◌, eqb}
+use Rattle.std.specs.Prelude.{ℕ, ◌+◌, ◌^◌, ◌≤◌, ◌<◌, ◌≡◌, ◌↔◌, ◌⊎◌, Bool, true, false, not, ◌||◌, ◌&&◌, List, [], ◌∷◌, eqb, if◌then◌else◌}
 use Rattle.words.specs.Sizes.{object, place_of, domain_of, space_of, selector_of, greatest_order}
 use Rattle.words.specs.Permissions.{within}
 use Rattle.words.specs.Ranges.{rounded}
@@ -8,7 +8,7 @@ use Rattle.descriptor.specs.declared.Range.{Range}
 use Rattle.descriptor.specs.declared.Reading.{Reading}
 use Rattle.descriptor.specs.declared.Reading.TheVariants.{Null, Malformed, Good}
 use Rattle.reply.specs.declared.Reply.TheVariants.{Success, Damaged}
-use Rattle.interface.specs.Basics.{if◌then◌else◌, word}
+use Rattle.interface.specs.Basics.{word}
 use Rattle.interface.specs.Places.{Cap, State, Tables, live, cap_at, shown, parentless, free, PD, EC, SC, PT, SM, domain_word, ec_word, kind_of, greatest_of, object_place, object_in}
 use Rattle.interface.specs.Boot.{hypervisor, root}
 use Rattle.interface.specs.Damage.{sound}

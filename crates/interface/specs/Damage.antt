@@ -1,10 +1,10 @@
 -- Damage: the twelve rules that tables keep. Tables that break one are damaged, and every call refuses them.
-use Rattle.std.specs.Prelude.{ℕ, ◌+◌, ◌-◌, Bool, true, not, ◌&&◌, ◌||◌, List, [], ◌∷◌, eqb, leb, ltb}
+use Rattle.std.specs.Prelude.{ℕ, ◌+◌, ◌-◌, Bool, true, not, ◌&&◌, ◌||◌, List, [], ◌∷◌, eqb, leb, ltb, if◌then◌else◌}
 use Rattle.words.specs.Sizes.{domains, object, selectors, domain_of, space_of, places, records, record_words, greatest_depth}
 use Rattle.words.specs.Permissions.{within}
 use Rattle.reply.specs.declared.Fault.{Fault}
 use Rattle.reply.specs.declared.Fault.TheVariants.{NoFault, Lengths, AtRecord, AtPlace}
-use Rattle.interface.specs.Basics.{if◌then◌else◌, all_below, any_below, count_below, lowest, all}
+use Rattle.interface.specs.Basics.{all_below, any_below, count_below, lowest, all}
 use Rattle.interface.specs.Places.{Cap, State, Tables, live, nothing, sized, shown, free, PD, EC, SC, PT, SM, domain_word, cpu_word, event_base_word, ec_word, priority_word, quantum_word, named_words, kind_of, greatest}
 use Rattle.interface.specs.Boot.{boot, hypervisor, cpus, root_pd, root_sc}
 

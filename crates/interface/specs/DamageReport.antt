@@ -1,7 +1,6 @@
 -- The damage report: it and the test of soundness agree, and it names the first rule that is broken, and the lowest record or else the lowest place that breaks it.
-use Rattle.std.specs.Prelude.{ℕ, ◌<◌, ◌≡◌, ◌↔◌, Bool, true, false, [], ◌∷◌, map, eqb, length}
+use Rattle.std.specs.Prelude.{ℕ, ◌<◌, ◌≡◌, ◌↔◌, Bool, true, false, [], ◌∷◌, map, eqb, length, if◌then◌else◌}
 use Rattle.reply.specs.declared.Fault.TheVariants.{NoFault, Lengths, AtRecord, AtPlace}
-use Rattle.interface.specs.Basics.{if◌then◌else◌}
 use Rattle.interface.specs.Places.{State, Tables, shown}
 use Rattle.interface.specs.Damage.{Rule, fixed_record, fixed_place, interrupt_rule, unnamed_rule, used_first, pd_rule, ec_rule, sc_rule, pt_rule, null_place, live_place, shallow, rules_of_damage, sound, fault}
 

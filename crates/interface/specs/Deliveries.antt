@@ -1,5 +1,5 @@
 -- What calls move: CALL's message item by item, offset by offset and word by word, and CREATE_PD's initial range. Each statement stands under one sentence.
-use Rattle.std.specs.Prelude.{ℕ, suc, ◌+◌, ◌-◌, ◌*◌, ◌^◌, ◌≤◌, ◌<◌, min, ◌≡◌, ◌↔◌, ◌⊎◌, true, false, ◌&&◌, List, eqb, length, take}
+use Rattle.std.specs.Prelude.{ℕ, suc, ◌+◌, ◌-◌, ◌*◌, ◌^◌, ◌≤◌, ◌<◌, min, ◌≡◌, ◌↔◌, ◌⊎◌, true, false, ◌&&◌, List, eqb, length, take, if◌then◌else◌}
 use Rattle.std.specs.Int.Bits.{bit_and}
 use Rattle.words.specs.Fields.{bits}
 use Rattle.words.specs.Sizes.{object, place_of, domain_of, places}
@@ -10,7 +10,7 @@ use Rattle.descriptor.specs.declared.Match.TheVariants.{Both}
 use Rattle.descriptor.specs.declared.Reason.{Reason}
 use Rattle.descriptor.specs.declared.Reason.TheVariants.{NullDescriptor, MalformedDescriptor, TypesDiffer, NothingFilled, TranslationBroke}
 use Rattle.reply.specs.declared.Reply.TheVariants.{Success}
-use Rattle.interface.specs.Basics.{if◌then◌else◌, word}
+use Rattle.interface.specs.Basics.{word}
 use Rattle.interface.specs.Places.{State, live, nothing, domain_word, kind_of}
 use Rattle.interface.specs.Damage.{sound_state}
 use Rattle.interface.specs.RangeDescriptors.{describe, reading, reason_number}

@@ -1,10 +1,10 @@
 -- Demand 3: what was lent out, over any sequence of events from boot.
-use Rattle.std.specs.Prelude.{ℕ, ◌<◌, ◌≤◌, ◌^◌, ◌≡◌, true, ◌&&◌, List, [], ◌∷◌, ◌++◌, ltb, length, drop}
+use Rattle.std.specs.Prelude.{ℕ, ◌<◌, ◌≤◌, ◌^◌, ◌≡◌, true, ◌&&◌, List, [], ◌∷◌, ◌++◌, ltb, length, drop, if◌then◌else◌}
 use Rattle.words.specs.Sizes.{domain_of, space_of, selector_of, places}
 use Rattle.descriptor.specs.declared.Range.{Range}
 use Rattle.descriptor.specs.declared.Reading.TheVariants.{Good}
 use Rattle.reply.specs.declared.Reply.TheVariants.{Success}
-use Rattle.interface.specs.Basics.{if◌then◌else◌, member, rising}
+use Rattle.interface.specs.Basics.{member, rising}
 use Rattle.interface.specs.Places.{State, Tables, live, nothing, domain_word, cap_at, tables_of, shown}
 use Rattle.interface.specs.Boot.{boot}
 use Rattle.interface.specs.Damage.{is_ec}

@@ -1,8 +1,8 @@
 -- Effects: all that a call can do to the tables, as steps that a call's rule lists and that are taken in turn.
-use Rattle.std.specs.Prelude.{ℕ, zero, suc, ◌+◌, Bool, not, ◌&&◌, ◌||◌, List, [], ◌∷◌, eqb, leb, ltb}
+use Rattle.std.specs.Prelude.{ℕ, zero, suc, ◌+◌, Bool, not, ◌&&◌, ◌||◌, List, [], ◌∷◌, eqb, leb, ltb, if◌then◌else◌}
 use Rattle.words.specs.Sizes.{greatest_depth}
 use Rattle.words.specs.Permissions.{delegated, revoked}
-use Rattle.interface.specs.Basics.{if◌then◌else◌, word, put, put_from, any}
+use Rattle.interface.specs.Basics.{word, put, put_from, any}
 use Rattle.interface.specs.Places.{Cap, State, live, nothing, parentless, count_word, kind_of, greatest_of}
 
 -- the steps: delegating one place to another with a mask; storing a new object's words in a record; giving a place a capability for an object, with greatest permissions and

@@ -1,13 +1,13 @@
 -- The worked examples of the interface (docs/INTERFACE.md has them in words), as one list of statements under one name; one whole message and one initial range; the journal's example
 -- and where the reading of a journal stops; and the numbers of the layout.
-use Rattle.std.specs.Prelude.{ℕ, zero, suc, ◌+◌, ◌-◌, ◌≡◌, Bool, true, false, ◌&&◌, List, [], ◌∷◌, ◌++◌, eqb, leb, ltb}
+use Rattle.std.specs.Prelude.{ℕ, zero, suc, ◌+◌, ◌-◌, ◌≡◌, Bool, true, false, ◌&&◌, List, [], ◌∷◌, ◌++◌, eqb, leb, ltb, if◌then◌else◌}
 use Rattle.words.specs.Sizes.{memory, object, place_of, io, places, record_words, block_words, domains, records, greatest_depth}
 use Rattle.words.specs.Fields.{greatest_word}
 use Rattle.words.specs.Permissions.{delegated, permits}
 use Rattle.descriptor.specs.declared.Range.{Range}
 use Rattle.descriptor.specs.declared.Reading.TheVariants.{Malformed, Good}
 use Rattle.reply.specs.declared.Reply.TheVariants.{Success, ComTim, BadHyp, BadCap, BadPar, BadCpu, NoRoom, Damaged, BadCaller, Short}
-use Rattle.interface.specs.Basics.{if◌then◌else◌, word, listed}
+use Rattle.interface.specs.Basics.{word, listed}
 use Rattle.interface.specs.Places.{Cap, State, nothing, parentless, PD, EC, PT, domain_word, free, SC, SM, kind_word, cpu_word, event_base_word, ec_word, priority_word, quantum_word, mtd_word, entry_word, identifier_word, count_word, named_words, greatest, create_bit, bind_sc_bit, bind_pt_bit, call_bit, object_place, cap_words, place_table_words, object_table_words}
 use Rattle.interface.specs.Boot.{boot, hypervisor, root, root_ec, boot_record, cpus, gsis}
 use Rattle.interface.specs.Damage.{sound_state}

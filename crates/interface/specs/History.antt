@@ -1,8 +1,8 @@
 -- The history: what the calls alone tell of who has what, and from whom. It is fed each call's number and arguments, and no answer and no word of a table.
-use Rattle.std.specs.Prelude.{ℕ, zero, suc, ◌+◌, Bool, false, not, ◌&&◌, ◌||◌, List, [], ◌∷◌, eqb, ltb, length}
+use Rattle.std.specs.Prelude.{ℕ, zero, suc, ◌+◌, Bool, false, not, ◌&&◌, ◌||◌, List, [], ◌∷◌, eqb, ltb, length, if◌then◌else◌}
 use Rattle.words.specs.Sizes.{memory, place_of, domain_of, space_of, selector_of, places}
 use Rattle.words.specs.Permissions.{delegated, revoked}
-use Rattle.interface.specs.Basics.{if◌then◌else◌, word, put, put_from, any, gather}
+use Rattle.interface.specs.Basics.{word, put, put_from, any, gather}
 use Rattle.interface.specs.Places.{Cap, State, live, nothing, kind_of, greatest_of}
 use Rattle.interface.specs.Boot.{hypervisor, root, boot, boot_cap}
 use Rattle.interface.specs.Effects.{Effect, give, make, hold, cut, store, chain, among, fills}

@@ -1,11 +1,11 @@
 -- The journal: records of hypercalls as bytes, and the lines that replaying them prints.
-use Rattle.std.specs.Prelude.{ℕ, zero, suc, ◌+◌, ◌*◌, ◌/◌, ◌≡◌, eqb, ltb, length, take, drop}
+use Rattle.std.specs.Prelude.{ℕ, zero, suc, ◌+◌, ◌*◌, ◌/◌, ◌≡◌, eqb, ltb, length, take, drop, if◌then◌else◌}
 use mathlib.Core.List.{List, [], ◌∷◌, ◌++◌, map, flatten}
 use Rattle.io.specs.Digits.{last_digits}
 use Rattle.endian.specs.Numbers.{number_at}
 use Rattle.words.specs.Sizes.{block_words}
 use Rattle.reply.specs.Replies.{status_of, answer_of}
-use Rattle.interface.specs.Basics.{if◌then◌else◌, listed}
+use Rattle.interface.specs.Basics.{listed}
 use Rattle.interface.specs.Places.{Tables, tables_of}
 use Rattle.interface.specs.Boot.{boot}
 use Rattle.interface.specs.Verdicts.{Call, CALL, CREATE_PD, CREATE_EC, CREATE_SC, CREATE_PT, CREATE_SM, REVOKE, LOOKUP, SM_CTRL}

@@ -1,12 +1,12 @@
 -- LOOKUP.
-use Rattle.std.specs.Prelude.{ℕ, zero, suc, ◌+◌, ◌^◌, Bool, not, ◌&&◌, [], eqb}
+use Rattle.std.specs.Prelude.{ℕ, zero, suc, ◌+◌, ◌^◌, Bool, not, ◌&&◌, [], eqb, if◌then◌else◌}
 use Rattle.words.specs.Sizes.{place_of, greatest_order}
 use Rattle.words.specs.Ranges.{rounded}
 use Rattle.descriptor.specs.declared.Range.{Range}
 use Rattle.descriptor.specs.declared.Reading.{Reading}
 use Rattle.descriptor.specs.declared.Reading.TheVariants.{Null, Malformed, Good}
 use Rattle.reply.specs.declared.Reply.TheVariants.{BadPar}
-use Rattle.interface.specs.Basics.{if◌then◌else◌, all_below}
+use Rattle.interface.specs.Basics.{all_below}
 use Rattle.interface.specs.Places.{Cap, State, live}
 use Rattle.interface.specs.RangeDescriptors.{describe, reading, malformed}
 use Rattle.interface.specs.Verdicts.{Call, Verdict, grant, require◌else◌then◌, caller_domain}

@@ -1,5 +1,5 @@
 -- The message block: word 0, the windows, the untyped words and the typed items.
-use Rattle.std.specs.Prelude.{ℕ, zero, suc, ◌+◌, ◌-◌, ◌*◌, ◌^◌, min, Bool, ◌&&◌, List, [], ◌∷◌, ◌++◌, eqb, leb, length, take, drop, set}
+use Rattle.std.specs.Prelude.{ℕ, zero, suc, ◌+◌, ◌-◌, ◌*◌, ◌^◌, min, Bool, ◌&&◌, List, [], ◌∷◌, ◌++◌, eqb, leb, length, take, drop, set, if◌then◌else◌}
 use Rattle.words.specs.Fields.{bits}
 use Rattle.words.specs.Sizes.{place_of, domain_of, selector_of, block_words}
 use Rattle.words.specs.Permissions.{delegated}
@@ -10,7 +10,7 @@ use Rattle.descriptor.specs.declared.Match.TheVariants.{Both, Neither}
 use Rattle.descriptor.specs.declared.Received.{Received}
 use Rattle.descriptor.specs.declared.Received.TheVariants.{NullItem, Shows}
 use Rattle.descriptor.specs.declared.Reason.TheVariants.{NothingFilled, TranslationBroke}
-use Rattle.interface.specs.Basics.{if◌then◌else◌, word, listed, all_below}
+use Rattle.interface.specs.Basics.{word, listed, all_below}
 use Rattle.interface.specs.Places.{Cap, State}
 use Rattle.interface.specs.Boot.{hypervisor, root}
 use Rattle.interface.specs.RangeDescriptors.{null, describe, reading, matched, why_null}

@@ -1,9 +1,9 @@
 -- Domains, places, objects: what the two tables hold.
-use Rattle.std.specs.Prelude.{ℕ, ◌+◌, ◌-◌, ◌*◌, ◌/◌, ◌%◌, Bool, ◌&&◌, List, [], ◌∷◌, eqb, ltb, length}
+use Rattle.std.specs.Prelude.{ℕ, ◌+◌, ◌-◌, ◌*◌, ◌/◌, ◌%◌, Bool, ◌&&◌, List, [], ◌∷◌, eqb, ltb, length, if◌then◌else◌}
 pub use Rattle.layout.specs.declared.Cap.{Cap}
 use Rattle.words.specs.Sizes.{memory, io, object, selectors, place_of, places, place_words, records, record_words}
 use Rattle.words.specs.Permissions.{permits}
-use Rattle.interface.specs.Basics.{if◌then◌else◌, word, listed}
+use Rattle.interface.specs.Basics.{word, listed}
 
 -- what a place holds (`Cap`): the resource's number (a page, a port or an object), the permissions, the parent place plus 1 (0: none), and the depth
 

@@ -1,8 +1,7 @@
 -- The rules of every hypercall, on what the tables show and on the tables themselves.
-use Rattle.std.specs.Prelude.{ℕ, ◌≡◌, List, eqb}
+use Rattle.std.specs.Prelude.{ℕ, ◌≡◌, List, eqb, if◌then◌else◌}
 use Rattle.reply.specs.declared.Reply.{Reply}
 use Rattle.reply.specs.declared.Reply.TheVariants.{Success, Damaged, BadHyp, BadCaller}
-use Rattle.interface.specs.Basics.{if◌then◌else◌}
 use Rattle.interface.specs.Places.{State, Tables, sized, shown, tables_of}
 use Rattle.interface.specs.Boot.{boot}
 use Rattle.interface.specs.Damage.{sound_state, is_ec}

@@ -1,6 +1,6 @@
 -- Small cases worked by hand, for the definitions that the worked examples do not reach: the history, steps, translation, why an item is null (14.5 of the manual), and the
 -- damage report.
-use Rattle.std.specs.Prelude.{ℕ, ◌+◌, ◌-◌, ◌≡◌, Bool, true, false, ◌&&◌, List, [], ◌∷◌, eqb, leb, ltb}
+use Rattle.std.specs.Prelude.{ℕ, ◌+◌, ◌-◌, ◌≡◌, Bool, true, false, ◌&&◌, List, [], ◌∷◌, eqb, leb, ltb, if◌then◌else◌}
 use Rattle.words.specs.Sizes.{block_words}
 use Rattle.descriptor.specs.declared.Range.{Range}
 use Rattle.descriptor.specs.declared.Match.TheVariants.{Both}
@@ -9,7 +9,7 @@ use Rattle.descriptor.specs.declared.Received.{Received}
 use Rattle.descriptor.specs.declared.Received.TheVariants.{NullItem, Shows}
 use Rattle.reply.specs.declared.Fault.{Fault}
 use Rattle.reply.specs.declared.Fault.TheVariants.{NoFault, AtRecord, AtPlace}
-use Rattle.interface.specs.Basics.{if◌then◌else◌, word, put, listed}
+use Rattle.interface.specs.Basics.{word, put, listed}
 use Rattle.interface.specs.Places.{Cap, State, nothing}
 use Rattle.interface.specs.Boot.{boot, hypervisor, root}
 use Rattle.interface.specs.Damage.{rules_of_damage, first_fault}

@@ -1,12 +1,12 @@
 -- What the reasons in received second words change: these words, and nothing else. The rules stand here with any number in the reason's place, and are compared with the rules as
 -- they are.
-use Rattle.std.specs.Prelude.{ℕ, zero, suc, ◌+◌, ◌-◌, ◌*◌, ◌<◌, ◌≡◌, List, [], ◌∷◌, eqb, length}
+use Rattle.std.specs.Prelude.{ℕ, zero, suc, ◌+◌, ◌-◌, ◌*◌, ◌<◌, ◌≡◌, List, [], ◌∷◌, eqb, length, if◌then◌else◌}
 use Rattle.words.specs.Fields.{bits}
 use Rattle.descriptor.specs.declared.Received.{Received}
 use Rattle.reply.specs.Replies.{status_of, answer_of}
 use Rattle.reply.specs.declared.Reply.{Reply}
 use Rattle.reply.specs.declared.Reply.TheVariants.{Success, Damaged}
-use Rattle.interface.specs.Basics.{if◌then◌else◌, word}
+use Rattle.interface.specs.Basics.{word}
 use Rattle.interface.specs.Places.{State, Tables, sized, shown, tables_of}
 use Rattle.interface.specs.Damage.{sound_state}
 use Rattle.interface.specs.RangeDescriptors.{why_null}

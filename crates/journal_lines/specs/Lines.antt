@@ -1,6 +1,5 @@
 -- The text of a line in a buffer.
-use Rattle.std.specs.Prelude.{ℕ, List, [], ltb, length}
-use Rattle.interface.specs.Basics.{if◌then◌else◌}
+use Rattle.std.specs.Prelude.{ℕ, List, [], ltb, length, if◌then◌else◌}
 use Rattle.interface.specs.Journal.{done, short, unknown, ended, spelled}
 use Rattle.interface.specs.Journal.{Line as JournalLine}
 use Rattle.journal_lines.specs.declared.Line.{Line}

@@ -10,7 +10,8 @@ use lib.ListN.{length, set, replicate, length-set, get_or-eq_default}
 use lib.Seq.{ext_get_or, get_or-set_same, get_or-set_other}
 use borrow.Author.Tests.{eqb-true, eqb-false, ltb-true, ltb-false, ne_eqb, lt-ltb, le-ltb}
 use Rattle.words.specs.Sizes.{records, record_words}
-use Rattle.interface.specs.Basics.{word, put, if◌then◌else◌}
+use Rattle.std.specs.Prelude.{if◌then◌else◌}
+use Rattle.interface.specs.Basics.{word, put}
 use Rattle.interface.specs.Places.{State, nothing, kind_word, object_table_words, object_at, record_table}
 use Rattle.interface.proofs.Basics.BoolLaws.{cases, either_way}
 use Rattle.interface.proofs.Basics.PutLaws.{put_same, put_other}

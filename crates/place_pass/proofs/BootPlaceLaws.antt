@@ -7,7 +7,8 @@ use lib.Dec.{eqb, leb, ltb}
 use borrow.Author.Tests.{ltb-true, ltb-false, lt-ltb, le-leb, eqb-true, eqb-false, eq-eqb}
 use Rattle.words.specs.Sizes.{memory, io, object, stride, domain_of, space_of, records, record_words}
 use Rattle.words.proofs.PlaceLaws.{space_small}
-use Rattle.interface.specs.Basics.{if◌then◌else◌, all_below}
+use Rattle.std.specs.Prelude.{if◌then◌else◌}
+use Rattle.interface.specs.Basics.{all_below}
 use Rattle.interface.specs.Places.{State, Tables, live, nothing, SM, kind_word, kind_of, shown, places_in}
 use Rattle.interface.specs.Boot.{hypervisor, cpus, root_pd, root_sc, boot_record, hypervisor_cap, boot_cap, boot}
 use Rattle.interface.specs.Damage.{record_as_boot, fixed_record, fixed_place, interrupt_rule, has_pd, null_place, parentless_place, live_place, shallow}

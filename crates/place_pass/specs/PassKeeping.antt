@@ -1,7 +1,7 @@
 -- What the pass over the places cites beside their rules: a shorter test of a place, and the places that are looked at together.
-use Rattle.std.specs.Prelude.{ℕ, ◌+◌, ◌-◌, ◌*◌, ◌%◌, ◌<◌, ◌≤◌, ◌≡◌, Bool, true, ◌&&◌, ◌||◌, eqb, leb, ltb, length}
+use Rattle.std.specs.Prelude.{ℕ, ◌+◌, ◌-◌, ◌*◌, ◌%◌, ◌<◌, ◌≤◌, ◌≡◌, Bool, true, ◌&&◌, ◌||◌, eqb, leb, ltb, length, if◌then◌else◌}
 use Rattle.words.specs.Sizes.{object, stride, domain_of, space_of, records, greatest_depth}
-use Rattle.interface.specs.Basics.{if◌then◌else◌, all_below}
+use Rattle.interface.specs.Basics.{all_below}
 use Rattle.interface.specs.Places.{State, Tables, nothing, kind_of, greatest_of, place_table_words, shown}
 use Rattle.interface.specs.Boot.{hypervisor}
 use Rattle.interface.specs.Damage.{same_cap, has_pd, parent_fits}

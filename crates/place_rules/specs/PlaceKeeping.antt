@@ -1,7 +1,7 @@
 -- What the functions over places cite beside the rules of damage: the rules of a place taken together, where a space begins and ends, and blank places.
-use Rattle.std.specs.Prelude.{ℕ, ◌+◌, ◌-◌, ◌*◌, ◌/◌, ◌%◌, ◌^◌, ◌<◌, ◌≡◌, Bool, ◌&&◌, ◌||◌, List, eqb, length}
+use Rattle.std.specs.Prelude.{ℕ, ◌+◌, ◌-◌, ◌*◌, ◌/◌, ◌%◌, ◌^◌, ◌<◌, ◌≡◌, Bool, ◌&&◌, ◌||◌, List, eqb, length, if◌then◌else◌}
 use Rattle.words.specs.Sizes.{selectors, start, stride, domain_of, space_of, places, place_words}
-use Rattle.interface.specs.Basics.{if◌then◌else◌, word, all_below}
+use Rattle.interface.specs.Basics.{word, all_below}
 use Rattle.interface.specs.Places.{State, Tables, kind_of, greatest, place_table_words, object_table_words, shown}
 use Rattle.interface.specs.Boot.{hypervisor}
 use Rattle.interface.specs.Damage.{fixed_place, has_pd, null_place, is_resource, live_place, shallow}

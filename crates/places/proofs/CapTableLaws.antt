@@ -10,7 +10,8 @@ use lib.ListN.{length, set, length-set}
 use lib.Seq.{lt-length-set, get_or-set_same, get_or-set_other, ext_get_or}
 use borrow.Author.Tests.{eqb-true, eqb-false, lt-ltb, le-ltb}
 use Rattle.words.specs.Sizes.{places, place_words}
-use Rattle.interface.specs.Basics.{if◌then◌else◌, word, put}
+use Rattle.std.specs.Prelude.{if◌then◌else◌}
+use Rattle.interface.specs.Basics.{word, put}
 use Rattle.interface.specs.Places.{Cap, nothing, place_table_words, cap_at, cap_words, cap_table}
 use Rattle.interface.specs.Effects.{fills, handed, given_caps}
 use Rattle.interface.proofs.Basics.BoolLaws.{cases, either_way}

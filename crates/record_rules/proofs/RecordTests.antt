@@ -9,7 +9,8 @@ use lib.Dec.{eqb, leb, ltb, leb-suc-suc}
 use lib.ListN.{replicate, get_or-eq_default}
 use borrow.Author.Tests.{ltb-true, ltb-false, leb-true, lt-ltb, le-ltb, le-leb, lt-leb, eqb-true, eqb-false, eq-eqb, ne_eqb, not-false}
 use Rattle.words.specs.Sizes.{object, domains, selectors, records, record_words}
-use Rattle.interface.specs.Basics.{if◌then◌else◌, word, all_below}
+use Rattle.std.specs.Prelude.{if◌then◌else◌}
+use Rattle.interface.specs.Basics.{word, all_below}
 use Rattle.interface.specs.Places.{State, free, PD, EC, SC, PT, SM, kind_of, named_words, kind_word, count_word, domain_word, cpu_word, event_base_word, ec_word, priority_word, quantum_word}
 use Rattle.interface.specs.Boot.{root, cpus, root_pd, root_ec, root_sc, no_ec, root_priority, root_quantum, boot_record}
 use Rattle.interface.specs.Damage.{fixed_record, interrupt_rule, unnamed_rule, used_first, pds_below, pd_rule, has_pd, is_ec, ec_rule, between1, greatest_priority, greatest_quantum, sc_rule, pt_rule}

@@ -1,7 +1,7 @@
 -- What the functions over records cite beside the rules of damage: the rules of a record taken together, and records whose PDs are numbered and counted.
-use Rattle.std.specs.Prelude.{ℕ, ◌*◌, ◌≤◌, ◌<◌, ◌≡◌, Bool, true, ◌&&◌, ◌||◌, List, [], ◌∷◌, eqb, ltb, length}
+use Rattle.std.specs.Prelude.{ℕ, ◌*◌, ◌≤◌, ◌<◌, ◌≡◌, Bool, true, ◌&&◌, ◌||◌, List, [], ◌∷◌, eqb, ltb, length, if◌then◌else◌}
 use Rattle.words.specs.Sizes.{records, record_words}
-use Rattle.interface.specs.Basics.{if◌then◌else◌, word, all_below}
+use Rattle.interface.specs.Basics.{word, all_below}
 use Rattle.interface.specs.Places.{State, free, object_table_words, kind_of}
 pub use Rattle.objects.specs.Records.{records_in}
 use Rattle.interface.specs.Damage.{fixed_record, interrupt_rule, unnamed_rule, used_first, pds_below, pd_rule, ec_rule, sc_rule, pt_rule}

@@ -12,7 +12,7 @@ use Rattle.layout.specs.declared.FoundPlace.{FoundPlace}
 use Rattle.layout.specs.declared.FoundPlace.TheVariants.{At, Nowhere}
 use Rattle.layout.specs.Numbers.{linked}
 use Rattle.layout.proofs.NumberLaws.{linked_inside, linked_out}
-use Rattle.interface.specs.Basics.{if◌then◌else◌}
+use Rattle.std.specs.Prelude.{if◌then◌else◌}
 use Rattle.interface.specs.Places.{Cap, State, live, cap_at, view}
 use Rattle.interface.specs.Damage.{live_place, shallow}
 use Rattle.interface.proofs.Basics.BoolLaws.{cases, and_left}

@@ -1,6 +1,5 @@
 -- What the functions that repair tables cite beside the definition of repair.
-use Rattle.std.specs.Prelude.{ℕ, ◌≡◌, Bool, false, not, ◌&&◌, List, length}
-use Rattle.interface.specs.Basics.{if◌then◌else◌}
+use Rattle.std.specs.Prelude.{ℕ, ◌≡◌, Bool, false, not, ◌&&◌, List, length, if◌then◌else◌}
 use Rattle.interface.specs.Places.{State, live, place_table, cap_at, view}
 use Rattle.interface.specs.Boot.{boot}
 use Rattle.interface.specs.Damage.{same_cap, live_place, shallow}

@@ -8,7 +8,7 @@ use native.Mathlib.Omega.{arith}
 use lib.Dec.{eqb}
 use borrow.Author.Tests.{eqb-true, eqb-false, eq-eqb, ne_eqb}
 use Rattle.words.specs.Sizes.{greatest_depth}
-use Rattle.interface.specs.Basics.{if◌then◌else◌}
+use Rattle.std.specs.Prelude.{if◌then◌else◌}
 use Rattle.interface.specs.Places.{State, live}
 use Rattle.interface.specs.Damage.{live_place, shallow}
 use Rattle.interface.specs.DamageReport.{place_keeps}

@@ -8,7 +8,8 @@ use lib.Dec.{eqb, ltb}
 use lib.ListN.{length}
 use borrow.Author.Tests.{eq-eqb, ltb-true, ltb-false}
 use Rattle.words.specs.Sizes.{stride, places}
-use Rattle.interface.specs.Basics.{if◌then◌else◌, count_below}
+use Rattle.std.specs.Prelude.{if◌then◌else◌}
+use Rattle.interface.specs.Basics.{count_below}
 use Rattle.interface.specs.Places.{Cap, State, Tables, live, nothing, place_table_words, object_table_words, sized, cap_at, shown, place_table, tables_of}
 use Rattle.interface.specs.Damage.{sound}
 use Rattle.interface.proofs.Basics.BoolLaws.{cases, not_both, both}

@@ -1,9 +1,9 @@
 -- Repair of found tables: sections 17.4 and 17.6 of the manual. Null places and, outside domain 0, places that cannot be accounted for are emptied, and nothing else changes.
-use Rattle.std.specs.Prelude.{ℕ, zero, suc, ◌+◌, ◌-◌, Bool, true, false, not, ◌&&◌, ◌||◌, eqb}
+use Rattle.std.specs.Prelude.{ℕ, zero, suc, ◌+◌, ◌-◌, Bool, true, false, not, ◌&&◌, ◌||◌, eqb, if◌then◌else◌}
 use Rattle.words.specs.Sizes.{domain_of, places, greatest_depth}
 use Rattle.reply.specs.declared.Reply.{Reply}
 use Rattle.reply.specs.declared.Reply.TheVariants.{Success, Damaged}
-use Rattle.interface.specs.Basics.{if◌then◌else◌, count_below}
+use Rattle.interface.specs.Basics.{count_below}
 use Rattle.interface.specs.Places.{Cap, State, Tables, live, nothing, sized, shown, place_table}
 use Rattle.interface.specs.Boot.{hypervisor}
 use Rattle.interface.specs.Damage.{live_place, shallow, sound}

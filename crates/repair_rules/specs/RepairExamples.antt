@@ -1,6 +1,6 @@
 -- The manual's examples of repair (17.8): what becomes of the places of boot's state, changed as each says.
-use Rattle.std.specs.Prelude.{ℕ, ◌+◌, ◌-◌, ◌≡◌, ◌&&◌, List, [], ◌∷◌, leb, eqb}
-use Rattle.interface.specs.Basics.{if◌then◌else◌, word, put}
+use Rattle.std.specs.Prelude.{ℕ, ◌+◌, ◌-◌, ◌≡◌, ◌&&◌, List, [], ◌∷◌, leb, eqb, if◌then◌else◌}
+use Rattle.interface.specs.Basics.{word, put}
 use Rattle.interface.specs.Places.{Cap, State, nothing}
 use Rattle.interface.specs.Boot.{boot}
 use Rattle.repair_rules.specs.Repair.{repaired_cap}

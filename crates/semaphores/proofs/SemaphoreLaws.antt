@@ -11,7 +11,8 @@ use Rattle.words.specs.Fields.{greatest_word}
 use Rattle.words.specs.Sizes.{records}
 use Rattle.reply.specs.declared.Reply.{Reply}
 use Rattle.reply.specs.declared.Reply.TheVariants.{Success, ComTim, BadCap, BadPar}
-use Rattle.interface.specs.Basics.{if◌then◌else◌, put, put_from}
+use Rattle.std.specs.Prelude.{if◌then◌else◌}
+use Rattle.interface.specs.Basics.{put, put_from}
 use Rattle.interface.specs.Places.{Cap, SM, domain_word, count_word, object_place, permitted, cap_at, object_at, record_table, tables, view}
 use Rattle.interface.specs.Effects.{count, act, run}
 use Rattle.interface.specs.Verdicts.{Call, Verdict, grant, require◌else◌then◌}

@@ -1,8 +1,7 @@
 -- Who is admitted to a call on sound tables: a caller that is an EC, with a number that is built.
-use Rattle.std.specs.Prelude.{ℕ, Bool, true, false, List}
+use Rattle.std.specs.Prelude.{ℕ, Bool, true, false, List, if◌then◌else◌}
 use Rattle.reply.specs.declared.Reply.TheVariants.{BadHyp, BadCaller}
 use Rattle.interface.specs.Places.{view}
-use Rattle.interface.specs.Basics.{if◌then◌else◌}
 use Rattle.interface.specs.Damage.{is_ec}
 use Rattle.interface.specs.Rules.{Built, rule, not_built, hypercall}
 use Rattle.service.specs.declared.Admitted.{Admitted}

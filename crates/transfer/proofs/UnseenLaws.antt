@@ -7,7 +7,8 @@ use lib.Dec.{eqb}
 use Rattle.words.specs.Sizes.{place_of}
 use Rattle.descriptor.specs.declared.Match.{Match}
 use Rattle.descriptor.specs.declared.Match.TheVariants.{Both, Neither}
-use Rattle.interface.specs.Basics.{if◌then◌else◌, word, listed}
+use Rattle.std.specs.Prelude.{if◌then◌else◌}
+use Rattle.interface.specs.Basics.{word, listed}
 use Rattle.interface.specs.Places.{State, places_in}
 use Rattle.interface.specs.RangeDescriptors.{reading, matched}
 use Rattle.interface.specs.Effects.{Effect, act, run, filled}

@@ -1,9 +1,8 @@
 -- One typed item by its words, and what it leaves of the place table.
-use Rattle.std.specs.Prelude.{ℕ, ◌≤◌, ◌≡◌, List, eqb}
+use Rattle.std.specs.Prelude.{ℕ, ◌≤◌, ◌≡◌, List, eqb, if◌then◌else◌}
 use Rattle.words.specs.Sizes.{object, selectors}
 use Rattle.descriptor.specs.declared.Reading.{Reading}
 use Rattle.descriptor.specs.Descriptors.{ShownProper}
-use Rattle.interface.specs.Basics.{if◌then◌else◌}
 use Rattle.interface.specs.Places.{State}
 use Rattle.interface.specs.RangeDescriptors.{reading, matched}
 use Rattle.interface.specs.Message.{delegate_bit, Item, delegate_item, translate_item}

@@ -24,7 +24,8 @@ use Rattle.descriptor.specs.declared.Reason.TheVariants.{TranslationBroke}
 use Rattle.layout.specs.Numbers.{linked as placeLinked}
 use Rattle.descriptor.specs.Descriptors.{Proper}
 use Rattle.layout.proofs.NumberLaws.{linked_out, linked_inside}
-use Rattle.interface.specs.Basics.{if◌then◌else◌, all_below}
+use Rattle.std.specs.Prelude.{if◌then◌else◌}
+use Rattle.interface.specs.Basics.{all_below}
 use Rattle.interface.specs.Places.{Cap, cap_at, places_in}
 use Rattle.interface.specs.Effects.{chain, ancestors, among}
 use Rattle.interface.specs.Message.{nearest, common, inside, sender_place, ancestor_at, translated_base, translates, translate_item}

@@ -1,12 +1,11 @@
 // Translating a typed item: the range of the receiver that the sender's places descend from.
 #![tactic(auto)]
 
-ghost use Rattle.std.specs.Prelude.{◌+◌, ◌^◌, ◌<◌, ◌≡◌, eqb};
+ghost use Rattle.std.specs.Prelude.{◌+◌, ◌^◌, ◌<◌, ◌≡◌, eqb, if◌then◌else◌};
 ghost use Rattle.words.specs.Sizes.{domains, places};
 ghost use Rattle.descriptor.specs.declared.Match.TheVariants.{Both};
 ghost use Rattle.layout.specs.Numbers.{linked};
 ghost use Rattle.descriptor.specs.Descriptors.{Proper};
-ghost use Rattle.interface.specs.Basics.{if◌then◌else◌};
 ghost use Rattle.interface.specs.Places.{cap_at, places_in};
 ghost use Rattle.interface.specs.Message.{nearest, sender_place, translate_item};
 ghost use Rattle.places.specs.Table.{Sized};

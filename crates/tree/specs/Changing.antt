@@ -1,6 +1,5 @@
 -- Changing some of the places of a table.
-use Rattle.std.specs.Prelude.{ℕ, Bool}
-use Rattle.interface.specs.Basics.{if◌then◌else◌}
+use Rattle.std.specs.Prelude.{ℕ, Bool, if◌then◌else◌}
 use Rattle.interface.specs.Places.{Cap}
 
 -- some capabilities, changed where a test says so

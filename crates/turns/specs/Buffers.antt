@@ -1,6 +1,5 @@
 -- The buffers of a replay, and its turns.
-use Rattle.std.specs.Prelude.{ℕ, zero, suc, ◌+◌, ◌-◌, ◌*◌, ◌^◌, ◌≤◌, ◌<◌, ◌≡◌, ◌⊎◌, Bool, true, false, List, ◌++◌, eqb, length, take, drop}
-use Rattle.interface.specs.Basics.{if◌then◌else◌}
+use Rattle.std.specs.Prelude.{ℕ, zero, suc, ◌+◌, ◌-◌, ◌*◌, ◌^◌, ◌≤◌, ◌<◌, ◌≡◌, ◌⊎◌, Bool, true, false, List, ◌++◌, eqb, length, take, drop, if◌then◌else◌}
 use Rattle.interface.specs.Places.{Tables}
 use Rattle.journal_lines.specs.Lines.{line_bytes}
 use Rattle.playback.specs.declared.Found.{Found}

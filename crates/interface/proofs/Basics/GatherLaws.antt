@@ -11,7 +11,8 @@ use native.Mathlib.Omega.{arith}
 use lib.Dec.{eqb, ltb}
 use lib.ListN.{length, length-append}
 use borrow.Author.Tests.{eq-eqb, eqb-true, lt-ltb, le-ltb, ltb-true}
-use Rattle.interface.specs.Basics.{if◌then◌else◌, gather, all, any, member, rising}
+use Rattle.std.specs.Prelude.{if◌then◌else◌}
+use Rattle.interface.specs.Basics.{gather, all, any, member, rising}
 use Rattle.interface.proofs.Basics.BoolLaws.{and_left, and_right, both, either, or_left, or_right, same_test, either_way}
 use Rattle.interface.proofs.Basics.BelowLaws.{below_suc}
 

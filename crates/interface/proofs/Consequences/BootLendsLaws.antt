@@ -12,7 +12,8 @@ use borrow.Author.Tests.{eq-eqb, ne_eqb, eqb-true, eqb-false, ltb-true, ltb-fals
 use Rattle.words.specs.Sizes.{memory, io, place_of, domain_of, space_of, places}
 use Rattle.descriptor.specs.declared.Reading.TheVariants.{Good}
 use Rattle.reply.specs.declared.Reply.TheVariants.{Success}
-use Rattle.interface.specs.Basics.{if◌then◌else◌, put, all_below, count_below, any, gather}
+use Rattle.std.specs.Prelude.{if◌then◌else◌}
+use Rattle.interface.specs.Basics.{put, all_below, count_below, any, gather}
 use Rattle.interface.specs.Places.{Cap, State, live, nothing, domain_word, tables_of}
 use Rattle.interface.specs.Boot.{hypervisor, root, root_ec, boot_record, boot_cap, boot}
 use Rattle.interface.specs.Damage.{same_cap, is_ec}

@@ -12,7 +12,8 @@ use Rattle.words.specs.Sizes.{domain_of, places, records, record_words}
 use Rattle.reply.specs.Replies.{status_of}
 use Rattle.reply.specs.declared.Reply.{Reply}
 use Rattle.reply.specs.declared.Reply.TheVariants.{Success, BadHyp, Damaged, BadCaller}
-use Rattle.interface.specs.Basics.{if◌then◌else◌, word, put, put_from}
+use Rattle.std.specs.Prelude.{if◌then◌else◌}
+use Rattle.interface.specs.Basics.{word, put, put_from}
 use Rattle.interface.specs.Places.{Cap, State, Tables, parentless, kind_of, greatest_of, sized, cap_at, shown, tables_of}
 use Rattle.interface.specs.Boot.{hypervisor, boot}
 use Rattle.interface.specs.Damage.{is_ec, sound_state, sound}

@@ -21,7 +21,8 @@ use Rattle.descriptor.specs.declared.Reason.TheVariants.{NullDescriptor, Malform
 use Rattle.descriptor.specs.declared.Received.{Received}
 use Rattle.descriptor.specs.declared.Received.TheVariants.{NullItem, Shows}
 use Rattle.descriptor.proofs.DescriptorLaws.{good_proper, null_type, good_type, reading_null, reason_some, reason_most, why_most, same_reason}
-use Rattle.interface.specs.Basics.{if◌then◌else◌, word, listed}
+use Rattle.std.specs.Prelude.{if◌then◌else◌}
+use Rattle.interface.specs.Basics.{word, listed}
 use Rattle.interface.specs.Places.{State}
 use Rattle.interface.specs.Damage.{sound_state}
 use Rattle.interface.specs.RangeDescriptors.{type_of, reading, matched, reason_number, why_null}

@@ -5,7 +5,8 @@ use mathlib.Core.Bool.{Bool, true, false}
 use mathlib.Core.List.{List, [], ◌∷◌, ◌++◌}
 use Rattle.endian.specs.Numbers.{little, number_at}
 use Rattle.words.specs.Sizes.{memory, object, place_of, space_of}
-use Rattle.interface.specs.Basics.{if◌then◌else◌, listed, all_below, count_below, lowest}
+use Rattle.std.specs.Prelude.{if◌then◌else◌}
+use Rattle.interface.specs.Basics.{listed, all_below, count_below, lowest}
 use Rattle.interface.specs.Places.{Cap, State, PD, domain_word}
 use Rattle.interface.specs.Boot.{boot, hypervisor, root}
 use Rattle.interface.specs.Damage.{pds_below, is_ec, sound_state}

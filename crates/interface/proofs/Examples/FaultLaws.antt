@@ -11,7 +11,8 @@ use borrow.Author.Tests.{leb-true, lt-ltb, ltb-true, ltb-false}
 use Rattle.words.specs.Sizes.{places, records}
 use Rattle.reply.specs.declared.Fault.{Fault}
 use Rattle.reply.specs.declared.Fault.TheVariants.{NoFault, AtRecord, AtPlace}
-use Rattle.interface.specs.Basics.{if◌then◌else◌, lowest}
+use Rattle.std.specs.Prelude.{if◌then◌else◌}
+use Rattle.interface.specs.Basics.{lowest}
 use Rattle.interface.specs.Places.{Cap, State, live}
 use Rattle.interface.specs.Boot.{boot}
 use Rattle.interface.specs.Damage.{Rule, fixed_record, fixed_place, has_pd, null_place, live_place, shallow, rules_of_damage, first_fault}

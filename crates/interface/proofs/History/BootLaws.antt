@@ -9,7 +9,8 @@ use lib.ListN.{length, get_or-eq_default}
 use borrow.Author.Tests.{eq-eqb, ne_eqb, eqb-true, eqb-false, lt-ltb, le-ltb, ltb-true, ltb-false, leb-true, le-leb}
 use Rattle.words.specs.Sizes.{memory, place_of, domain_of, space_of, selector_of, places, records, record_words, greatest_depth}
 use Rattle.words.specs.Permissions.{delegated}
-use Rattle.interface.specs.Basics.{if◌then◌else◌, put, all_below}
+use Rattle.std.specs.Prelude.{if◌then◌else◌}
+use Rattle.interface.specs.Basics.{put, all_below}
 use Rattle.interface.specs.Places.{Cap, State, live, nothing}
 use Rattle.interface.specs.Boot.{hypervisor, root, cpus, root_pd, root_ec, root_sc, information_page, utcb_page, boot_record, hypervisor_cap, root_memory, root_cap, boot_cap, boot}
 use Rattle.interface.specs.Damage.{same_cap, fixed_place, null_place, shallow, sound_state}

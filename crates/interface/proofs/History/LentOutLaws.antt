@@ -13,7 +13,8 @@ use Rattle.words.proofs.BitLaws.{revoked_ones}
 use Rattle.words.proofs.PlaceLaws.{made_so}
 use Rattle.descriptor.specs.declared.Reading.TheVariants.{Good}
 use Rattle.reply.specs.declared.Reply.TheVariants.{Success}
-use Rattle.interface.specs.Basics.{if◌then◌else◌, any}
+use Rattle.std.specs.Prelude.{if◌then◌else◌}
+use Rattle.interface.specs.Basics.{any}
 use Rattle.interface.specs.Places.{State, Tables, live, nothing, domain_word, cap_at, place_table, object_table, tables_of}
 use Rattle.interface.specs.Damage.{is_ec, sound_state}
 use Rattle.interface.specs.RangeDescriptors.{reading}

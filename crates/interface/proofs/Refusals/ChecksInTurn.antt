@@ -10,7 +10,8 @@ use borrow.Author.Tests.{ltb-true, ltb-false, leb-true, leb-false, eqb-true, eqb
 use Rattle.reply.specs.Replies.{status_of}
 use Rattle.reply.specs.declared.Reply.{Reply}
 use Rattle.reply.specs.declared.Reply.TheVariants.{Success, ComTim, BadCap, BadPar, BadCpu, NoRoom}
-use Rattle.interface.specs.Basics.{if◌then◌else◌, member}
+use Rattle.std.specs.Prelude.{if◌then◌else◌}
+use Rattle.interface.specs.Basics.{member}
 use Rattle.interface.specs.Verdicts.{Verdict, require◌else◌then◌, reply_of}
 use Rattle.interface.proofs.Basics.BoolLaws.{cases, not_both, and_left, and_right, or_none_left, or_none_right, either_way}
 
@@ -122,9 +123,10 @@ has_refusal (check ∷ checks) reply = eqb (status_of check.reply) (status_of re
 abbrev pub Cause : List Check → Reply → Type 0
 Cause [] reply = ⊥
 Cause (check ∷ checks) reply =
-    if eqb (status_of check.reply) (status_of reply)
-    then (if has_refusal checks reply then check.contrary ⊎ (check.fact × Cause checks reply) else check.contrary)
-    else (if has_refusal checks reply then check.fact × Cause checks reply else ⊥)
+    cond
+    (eqb (status_of check.reply) (status_of reply))
+    (cond (has_refusal checks reply) (check.contrary ⊎ (check.fact × Cause checks reply)) check.contrary)
+    (cond (has_refusal checks reply) (check.fact × Cause checks reply) ⊥)
 
 -- each check holds
 abbrev pub Passed : List Check → Type 0
@@ -135,7 +137,7 @@ Passed (check ∷ next ∷ checks) = check.fact × Passed (next ∷ checks)
 -- one check before others
 one_check : (test here more : Bool) (fact contrary rest : Type 0) (reply next refusal : Reply) → Decides test fact contrary → (here ≡ true → reply ≡ refusal) →
     (here ≡ false → reply ≡ refusal → ⊥) → (more ≡ false → next ≡ refusal → ⊥) → (next ≡ refusal) ↔ rest →
-    (cond test next reply ≡ refusal) ↔ (if here then (if more then contrary ⊎ (fact × rest) else contrary) else (if more then fact × rest else ⊥))
+    (cond test next reply ≡ refusal) ↔ cond here (cond more (contrary ⊎ (fact × rest)) contrary) (cond more (fact × rest) ⊥)
 one_check true true true fact contrary rest reply next refusal d same other never later = (
   λ e. inr (d.holds refl, later.0 e),
   ⊎_elim (λ (x : contrary). absurd (d.apart (d.holds refl) x)) (λ (x : fact × rest). later.1 x.1),

@@ -9,7 +9,8 @@ use lib.Dec.{eqb}
 use Rattle.reply.specs.Replies.{status_of}
 use Rattle.reply.specs.declared.Reply.{Reply}
 use Rattle.reply.specs.declared.Reply.TheVariants.{BadHyp, BadCaller}
-use Rattle.interface.specs.Basics.{if◌then◌else◌, any, member}
+use Rattle.std.specs.Prelude.{if◌then◌else◌}
+use Rattle.interface.specs.Basics.{any, member}
 use Rattle.interface.specs.Places.{State}
 use Rattle.interface.specs.Damage.{sound_state, is_ec}
 use Rattle.interface.specs.Effects.{Effect}

@@ -15,7 +15,8 @@ use Rattle.descriptor.specs.declared.Reading.{Reading}
 use Rattle.descriptor.specs.declared.Reading.TheVariants.{Null, Malformed, Good}
 use Rattle.reply.specs.declared.Reply.{Reply}
 use Rattle.reply.specs.declared.Reply.TheVariants.{Success, ComTim, BadCap, BadPar, NoRoom, Short}
-use Rattle.interface.specs.Basics.{if◌then◌else◌, put, put_from, any, member}
+use Rattle.std.specs.Prelude.{if◌then◌else◌}
+use Rattle.interface.specs.Basics.{put, put_from, any, member}
 use Rattle.interface.specs.Places.{State, Tables, live, shown, SM, count_word, object_in}
 use Rattle.interface.specs.Damage.{sound_state, sound, is_ec}
 use Rattle.interface.specs.RangeDescriptors.{reading, malformed}

@@ -10,7 +10,7 @@ use borrow.Author.Tests.{eq-eqb}
 use Rattle.words.specs.Sizes.{memory, io, space_of, places}
 use Rattle.words.specs.Permissions.{delegated, within}
 use Rattle.words.proofs.BitLaws.{delegated_ones}
-use Rattle.interface.specs.Basics.{if◌then◌else◌}
+use Rattle.std.specs.Prelude.{if◌then◌else◌}
 use Rattle.interface.specs.Places.{State, live, kind_of, greatest, greatest_of, greatest_in}
 use Rattle.interface.proofs.Basics.BoolLaws.{cases}
 use Rattle.interface.proofs.Sound.Soundness.{Sound}

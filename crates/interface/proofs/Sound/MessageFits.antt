@@ -17,7 +17,8 @@ use Rattle.reply.specs.declared.Reply.{Reply}
 use Rattle.descriptor.specs.declared.Reason.TheVariants.{TypesDiffer}
 use Rattle.descriptor.specs.Descriptors.{Proper, ReadProper}
 use Rattle.descriptor.proofs.DescriptorLaws.{good_proper}
-use Rattle.interface.specs.Basics.{word, if◌then◌else◌}
+use Rattle.std.specs.Prelude.{if◌then◌else◌}
+use Rattle.interface.specs.Basics.{word}
 use Rattle.interface.specs.Places.{State, PT, ec_word, domain_word, call_bit, object_place, permitted, object_in}
 use Rattle.interface.specs.Boot.{hypervisor, root}
 use Rattle.interface.specs.Damage.{has_pd, is_ec}

@@ -7,7 +7,7 @@ use lib.Dec.{eqb, leb, ltb}
 use borrow.Author.Tests.{ltb-true, eqb-true, eqb-false, eq-eqb, not-true}
 use Rattle.words.specs.Sizes.{memory, io, object, spaces, selectors, domain_of, space_of, records}
 use Rattle.words.proofs.PlaceLaws.{space_small}
-use Rattle.interface.specs.Basics.{if◌then◌else◌}
+use Rattle.std.specs.Prelude.{if◌then◌else◌}
 use Rattle.interface.specs.Places.{State, live, free, PD, EC, SC, PT, kind_word, domain_word, cpu_word, event_base_word, ec_word, priority_word, quantum_word, kind_of, greatest}
 use Rattle.interface.specs.Boot.{hypervisor, cpus}
 use Rattle.interface.specs.Damage.{fixed_record, fixed_place, interrupt_rule, unnamed_rule, used_first, pds_below, pd_rule, has_pd, is_ec, ec_rule, between1, sc_rule, pt_rule, null_place, is_resource, lineage_keeps, live_place, shallow}

@@ -8,7 +8,8 @@ use borrow.Author.Tests.{ltb-true, lt-ltb, leb-true, le-leb, eqb-true, eqb-false
 use Rattle.words.specs.Sizes.{domains, object, domain_of, space_of, selector_of, places, records, record_words, greatest_depth}
 use Rattle.words.specs.Permissions.{within}
 use Rattle.words.proofs.BitLaws.{within_le}
-use Rattle.interface.specs.Basics.{if◌then◌else◌, all_below}
+use Rattle.std.specs.Prelude.{if◌then◌else◌}
+use Rattle.interface.specs.Basics.{all_below}
 use Rattle.interface.specs.Places.{Cap, State, live, nothing, free, PD, SM, domain_word, named_words, kind_of, greatest}
 use Rattle.interface.specs.Boot.{hypervisor, root_pd, hypervisor_cap, boot_cap, boot}
 use Rattle.interface.specs.Damage.{same_cap, fixed_place, unnamed_rule, pds_below, pd_rule, has_pd, null_place, is_resource, parentless_place, child_place, lineage_keeps, live_place, shallow}

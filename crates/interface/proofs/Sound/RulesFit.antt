@@ -7,7 +7,7 @@ use lib.Dec.{eqb}
 use borrow.Author.Tests.{eqb-true}
 use Rattle.reply.specs.declared.Reply.{Reply}
 use Rattle.reply.specs.declared.Reply.TheVariants.{Damaged, BadPar, BadCaller}
-use Rattle.interface.specs.Basics.{if◌then◌else◌}
+use Rattle.std.specs.Prelude.{if◌then◌else◌}
 use Rattle.interface.specs.Places.{State}
 use Rattle.interface.specs.Damage.{is_ec, sound_state}
 use Rattle.interface.specs.RangeDescriptors.{reading, malformed}

@@ -8,7 +8,8 @@ use native.Mathlib.Omega.{arith}
 use lib.Dec.{eqb, leb, ltb}
 use borrow.Author.Tests.{ltb-true, ltb-false, leb-true, leb-false, eqb-true, eqb-false, ne_eqb, le-leb, not-true}
 use Rattle.words.specs.Sizes.{records, record_words}
-use Rattle.interface.specs.Basics.{if◌then◌else◌, word, put_from, all_below}
+use Rattle.std.specs.Prelude.{if◌then◌else◌}
+use Rattle.interface.specs.Basics.{word, put_from, all_below}
 use Rattle.interface.specs.Places.{State, free, PD, SC, SM, kind_word, kind_of}
 use Rattle.interface.specs.Boot.{boot, boot_record, cpus, root_pd, root_sc}
 use Rattle.interface.specs.Damage.{record_as_boot, fixed_record, interrupt_rule, used_first, pd_rule, between1}
