@@ -1,14 +1,12 @@
 -- What is packed of a page is what was read or written.
 use Prim.Native.Nat.{ℕ, ◌+◌, ◌*◌}
-use mathlib.Core.Path.{◌≡◌, refl, sym, ap, ◌∙◌}
+use mathlib.Core.Path.{◌≡◌, sym, ap, ◌∙◌}
 use mathlib.Core.List.{List, [], ◌∷◌}
 use lib.IntN.{ℤ, pos}
-use lib.ListN.{length}
 use mir.Syntax.{w32}
 use mir.Val.{of_z, to_z}
-use Rattle.endian.specs.Numbers.{little}
-use Rattle.hip_format.specs.Format.{fields, cpu_bytes}
-use Rattle.hip_format.specs.Reader.{refusal_number, contents_of, Judgement, refused, judged, cpu_of, memory_of}
+use Rattle.hip_format.specs.Format.{fields}
+use Rattle.hip_format.specs.Reader.{refusal_number, refused, judged, memory_of}
 use Rattle.hip_format.specs.Writer.{Writing}
 use Rattle.hip_format.specs.declared.Refusal.{Refusal}
 use Rattle.hip_format.specs.declared.Summary.{Summary}

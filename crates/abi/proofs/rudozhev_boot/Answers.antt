@@ -1,6 +1,5 @@
 -- The tables are boot's, and the reply is packed.
 use Rattle.abi.proofs.PackingLaws.{boots}
-use borrow.Author.Rules.{rules}
 use Rattle.abi.proofs.rudozhev_boot.Goals as goal
 
 pub returns : goal.returns

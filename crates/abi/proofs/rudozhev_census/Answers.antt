@@ -1,6 +1,5 @@
 -- The list is the census's, and the reply is packed.
 use Rattle.abi.proofs.PackingLaws.{counts}
-use borrow.Author.Rules.{rules}
 use Rattle.abi.proofs.rudozhev_census.Goals as goal
 
 pub returns : goal.returns

@@ -2,7 +2,6 @@
 use mathlib.Core.Path.{refl, sym, ◌∙◌}
 use native.Mathlib.Omega.{arith}
 use Rattle.abi.proofs.PackingLaws.{place_inside, faults}
-use borrow.Author.Rules.{rules}
 use Rattle.abi.proofs.rudozhev_damage.Goals as goal
 
 pub overflow_add-place : goal.overflow_add-place

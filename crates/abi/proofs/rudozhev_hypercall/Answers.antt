@@ -1,6 +1,5 @@
 -- The tables and the block are the hypercall's, and the reply is packed.
 use Rattle.abi.proofs.PackingLaws.{calls}
-use borrow.Author.Rules.{rules}
 use Rattle.abi.proofs.rudozhev_hypercall.Goals as goal
 
 pub returns : goal.returns

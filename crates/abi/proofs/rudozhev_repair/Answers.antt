@@ -1,6 +1,5 @@
 -- The tables are those that repair leaves, and the reply is packed.
 use Rattle.abi.proofs.PackingLaws.{mends}
-use borrow.Author.Rules.{rules}
 use Rattle.abi.proofs.rudozhev_repair.Goals as goal
 
 pub returns : goal.returns

@@ -1,6 +1,5 @@
 -- The answer is that of the damage test.
 use mathlib.Core.Path.{sym, ◌∙◌}
-use borrow.Author.Rules.{rules}
 use Rattle.abi.proofs.rudozhev_sound.Goals as goal
 
 pub returns-then-is_sound : goal.returns-then-is_sound

@@ -1,8 +1,7 @@
 -- The records below the loop's number have their words of boot.
 use Prim.Native.Nat.{◌-◌}
 use borrow.Author.Rules.{rules}
-use Rattle.words.specs.Sizes.{records}
-use Rattle.boot.proofs.FillingLaws.{RecordsBelow, no_records, next_record, all_records}
+use Rattle.boot.proofs.FillingLaws.{no_records, next_record, all_records}
 use Rattle.boot.proofs.fill_objects.Goals as goal
 
 pub loop-number-init : goal.loop-number-init

@@ -1,8 +1,7 @@
 -- The places below the loop's number hold what they do at boot.
 use Prim.Native.Nat.{◌-◌}
 use borrow.Author.Rules.{rules}
-use Rattle.words.specs.Sizes.{places}
-use Rattle.boot.proofs.FillingLaws.{PlacesBelow, no_places, next_place, all_places}
+use Rattle.boot.proofs.FillingLaws.{no_places, next_place, all_places}
 use Rattle.boot.proofs.fill_places.Goals as goal
 
 pub loop-number-init : goal.loop-number-init

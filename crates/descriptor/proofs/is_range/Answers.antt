@@ -1,7 +1,6 @@
 -- The tests are the definition's, and base and size are both far below the greatest word.
 use Prim.Native.Nat.{◌≤◌}
 use native.Mathlib.Omega.{arith}
-use borrow.Author.Rules.{rules}
 use lib.Pow.{pow_mono}
 use Rattle.descriptor.specs.Descriptors.{well_formed}
 use Rattle.descriptor.proofs.is_range.Goals as goal

@@ -1,10 +1,8 @@
 -- The loop's invariant: the answer so far is that of the words passed. The measure is how many words are left.
-use Rattle.std.proofs.Common.{◌≡◌, ◌+◌, ◌-◌, ◌*◌, ◌≤◌, arith, rules}
+use Rattle.std.proofs.Common.{◌≡◌, ◌+◌, ◌-◌, ◌*◌, ◌≤◌}
 use Rattle.words.specs.Sizes.{place_words}
 use Rattle.interface.specs.Basics.{all_below, word}
-use Rattle.interface.proofs.Basics.LoopLaws.{so_far_none, so_far_more, so_far_done}
 use Rattle.hypervisor_rules.specs.HypervisorKeeping.{steps, is_step}
-use Rattle.hypervisor_rules.proofs.StretchLaws.{step_so}
 use Rattle.hypervisor_rules.proofs.are_steps.Given as goal
 
 abbrev pub invariant-loop-i : goal.invariant-loop-i

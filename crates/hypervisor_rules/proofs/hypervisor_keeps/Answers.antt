@@ -1,7 +1,7 @@
 -- Each stretch is as the definition of boot's places has it, and so are the idle SCs; the rest is null.
 use mathlib.Core.Bool.{not}
 use mathlib.Core.Path.{ap}
-use Rattle.std.proofs.Common.{◌+◌, ◌∙◌, arith, rules}
+use Rattle.std.proofs.Common.{◌+◌, ◌∙◌, arith}
 use Rattle.words.specs.Sizes.{io, object, start, stride}
 use Rattle.interface.specs.Boot.{cpus, root_pd}
 use Rattle.interface.proofs.Basics.LoopLaws.{all_below_none, all_below_within, answered_yes}

@@ -2,7 +2,7 @@
 use mathlib.Core.Bool.{not}
 use mathlib.Core.Path.{ap}
 use Rattle.std.proofs.Common.{◌-◌, ◌≤◌, arith, rules}
-use Rattle.hypervisor_rules.proofs.StretchLaws.{Steps, steps_none, steps_more, steps_broken, steps_done}
+use Rattle.hypervisor_rules.proofs.StretchLaws.{steps_none, steps_more, steps_broken, steps_done}
 use Rattle.hypervisor_rules.proofs.rises.Goals as goal
 
 pub loop-at-init : goal.loop-at-init

@@ -1,6 +1,6 @@
 -- The loop's invariant: each word of the places passed steps to that of the next. The measure is how many places are left.
-use Rattle.std.proofs.Common.{◌-◌, ◌≤◌, arith, rules}
-use Rattle.hypervisor_rules.proofs.StretchLaws.{Steps, steps_none, steps_more, steps_broken, steps_done}
+use Rattle.std.proofs.Common.{◌-◌, ◌≤◌}
+use Rattle.hypervisor_rules.proofs.StretchLaws.{Steps}
 use Rattle.hypervisor_rules.proofs.rises.Given as goal
 
 abbrev pub invariant-loop-at : goal.invariant-loop-at

@@ -1,6 +1,5 @@
 -- A group whose first place has a permission is not blank.
 use Rattle.place_pass.proofs.QuickLaws.{live_not_blank}
-use borrow.Author.Rules.{rules}
 use Rattle.place_pass.proofs.group_is_blank.Goals as goal
 
 pub returns-then-cap_at-ne0 : goal.returns-then-cap_at-ne0

@@ -4,10 +4,8 @@ use mathlib.Core.Path.{◌≡◌, sym, ◌∙◌}
 use mathlib.Core.Bool.{true}
 use native.Mathlib.Omega.{arith}
 use Rattle.words.proofs.PlaceLaws.{space_small}
-use Rattle.interface.specs.Basics.{all_below}
-use Rattle.interface.specs.Places.{view}
 use Rattle.interface.proofs.Basics.LoopLaws.{all_below_more, all_below_done, all_below_broken}
-use Rattle.place_pass.specs.PassKeeping.{quick_keeps, group}
+use Rattle.place_pass.specs.PassKeeping.{group}
 use Rattle.place_rules.proofs.PlaceTests.{extent_space, extent_own}
 use Rattle.place_pass.proofs.GroupLaws.{around_home}
 use Rattle.place_pass.proofs.QuickLaws.{blank_keeps}

@@ -1,17 +1,10 @@
 -- A blank group passes at once. The loop's invariant: each place passed passes the test. The measure is how many places of the group are left.
 use Prim.Native.Nat.{◌+◌, ◌-◌, ◌≤◌}
-use mathlib.Core.Path.{◌≡◌, sym, ◌∙◌}
+use mathlib.Core.Path.{◌≡◌, ◌∙◌}
 use mathlib.Core.Bool.{true}
-use native.Mathlib.Omega.{arith}
-use Rattle.words.proofs.PlaceLaws.{space_small}
 use Rattle.interface.specs.Basics.{all_below}
 use Rattle.interface.specs.Places.{view}
-use Rattle.interface.proofs.Basics.LoopLaws.{all_below_more, all_below_done, all_below_broken}
 use Rattle.place_pass.specs.PassKeeping.{quick_keeps, group}
-use Rattle.place_rules.proofs.PlaceTests.{extent_space, extent_own}
-use Rattle.place_pass.proofs.GroupLaws.{around_home}
-use Rattle.place_pass.proofs.QuickLaws.{blank_keeps}
-use borrow.Author.Rules.{rules}
 use Rattle.place_pass.proofs.group_keeps.Given as goal
 
 abbrev pub invariant-loop-at : goal.invariant-loop-at

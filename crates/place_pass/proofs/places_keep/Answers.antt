@@ -4,11 +4,9 @@ use mathlib.Core.Path.{◌≡◌, sym, ◌∙◌, ap}
 use mathlib.Core.Bool.{true, not}
 use native.Mathlib.Omega.{arith}
 use Rattle.words.specs.Sizes.{stride, places}
-use Rattle.interface.specs.Basics.{all_below}
-use Rattle.interface.specs.Places.{view}
 use Rattle.interface.proofs.Basics.LoopLaws.{all_below_done, all_below_within, answered_yes}
 use Rattle.record_rules.proofs.PdLaws.{few_pds}
-use Rattle.place_pass.specs.PassKeeping.{quick_keeps, group}
+use Rattle.place_pass.specs.PassKeeping.{group}
 use Rattle.place_pass.proofs.QuickLaws.{quick_decides, quick_start, blank_decides}
 use Rattle.place_pass.proofs.places_keep.Goals as goal
 

@@ -1,15 +1,11 @@
 -- The loop's invariant: the places before this group pass the shorter test. The measure is how many places of domains with a PD are left. The places after these decide by being blank.
 use Prim.Native.Nat.{◌+◌, ◌-◌, ◌*◌, ◌%◌, ◌≤◌}
-use mathlib.Core.Path.{◌≡◌, sym, ◌∙◌}
+use mathlib.Core.Path.{◌≡◌, ◌∙◌}
 use mathlib.Core.Bool.{true}
-use native.Mathlib.Omega.{arith}
-use Rattle.words.specs.Sizes.{stride, places}
+use Rattle.words.specs.Sizes.{stride}
 use Rattle.interface.specs.Basics.{all_below}
 use Rattle.interface.specs.Places.{view}
-use Rattle.interface.proofs.Basics.LoopLaws.{all_below_done, all_below_within, answered_yes}
-use Rattle.record_rules.proofs.PdLaws.{few_pds}
 use Rattle.place_pass.specs.PassKeeping.{quick_keeps, group}
-use Rattle.place_pass.proofs.QuickLaws.{quick_decides, quick_start, blank_decides}
 use Rattle.place_pass.proofs.places_keep.Given as goal
 
 abbrev pub invariant-loop-first : goal.invariant-loop-first

@@ -6,7 +6,7 @@ use native.Mathlib.Omega.{arith}
 use borrow.Author.Rules.{rules}
 use Rattle.words.specs.Sizes.{places}
 use Rattle.place_pass.specs.PassKeeping.{run}
-use Rattle.place_pass.proofs.QuickLaws.{Nulls, nulls_none, nulls_more, nulls_broken, nulls_done}
+use Rattle.place_pass.proofs.QuickLaws.{nulls_none, nulls_more, nulls_broken, nulls_done}
 use Rattle.place_pass.proofs.rest_is_blank.Goals as goal
 
 pub loop-at-init : goal.loop-at-init

@@ -1,11 +1,9 @@
 -- The loop's invariant: each place passed is null. The measure is how many places are left.
 use Prim.Native.Nat.{◌-◌, ◌%◌, ◌≤◌}
 use mathlib.Core.Path.{◌≡◌}
-use native.Mathlib.Omega.{arith}
-use borrow.Author.Rules.{rules}
 use Rattle.words.specs.Sizes.{places}
 use Rattle.place_pass.specs.PassKeeping.{run}
-use Rattle.place_pass.proofs.QuickLaws.{Nulls, nulls_none, nulls_more, nulls_broken, nulls_done}
+use Rattle.place_pass.proofs.QuickLaws.{Nulls}
 use Rattle.place_pass.proofs.rest_is_blank.Given as goal
 
 abbrev pub invariant-loop-at : goal.invariant-loop-at

@@ -1,6 +1,5 @@
 -- The place is the one counted to.
 use mathlib.Core.Path.{◌∙◌, ap}
-use borrow.Author.Rules.{rules}
 use Rattle.interface.specs.Places.{cap_at}
 use Rattle.place_rules.proofs.cap_at.Goals as goal
 

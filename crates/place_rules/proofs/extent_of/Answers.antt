@@ -1,6 +1,5 @@
 -- A space ends within its domain.
 use native.Mathlib.Omega.{arith}
-use borrow.Author.Rules.{rules}
 use Rattle.words.specs.Sizes.{spaces}
 use Rattle.words.proofs.PlaceLaws.{start_rises}
 use Rattle.place_rules.proofs.extent_of.Goals as goal

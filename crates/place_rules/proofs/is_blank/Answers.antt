@@ -2,9 +2,6 @@
 use Prim.Native.Nat.{◌+◌, ◌-◌, ◌*◌, ◌≤◌}
 use mathlib.Core.Path.{◌≡◌, refl}
 use native.Mathlib.Omega.{arith}
-use lib.Dec.{eqb}
-use Rattle.words.specs.Sizes.{place_words}
-use Rattle.interface.specs.Basics.{all_below, word}
 use Rattle.interface.proofs.Basics.LoopLaws.{so_far_none, so_far_more, so_far_done}
 use borrow.Author.Rules.{rules}
 use Rattle.place_rules.proofs.is_blank.Goals as goal

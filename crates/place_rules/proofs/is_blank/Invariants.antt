@@ -1,12 +1,9 @@
 -- The loop's invariant: the answer so far is that of the words passed. The measure is how many words are left.
 use Prim.Native.Nat.{◌+◌, ◌-◌, ◌*◌, ◌≤◌}
-use mathlib.Core.Path.{◌≡◌, refl}
-use native.Mathlib.Omega.{arith}
+use mathlib.Core.Path.{◌≡◌}
 use lib.Dec.{eqb}
 use Rattle.words.specs.Sizes.{place_words}
 use Rattle.interface.specs.Basics.{all_below, word}
-use Rattle.interface.proofs.Basics.LoopLaws.{so_far_none, so_far_more, so_far_done}
-use borrow.Author.Rules.{rules}
 use Rattle.place_rules.proofs.is_blank.Given as goal
 
 abbrev pub invariant-loop-i : goal.invariant-loop-i

@@ -1,5 +1,4 @@
 -- The parts before a place are among those of its space alone.
-use borrow.Author.Rules.{rules}
 use Rattle.place_rules.proofs.PlaceTests.{of_extent}
 use Rattle.place_rules.proofs.is_of_space.Goals as goal
 

@@ -1,5 +1,4 @@
 -- The tests are the definition's.
-use borrow.Author.Rules.{rules}
 use Rattle.place_rules.proofs.null_keeps.Goals as goal
 
 pub returns : goal.returns

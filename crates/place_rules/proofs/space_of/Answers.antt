@@ -1,5 +1,4 @@
 -- The space is that of the place that the count makes.
-use borrow.Author.Rules.{rules}
 use Rattle.place_rules.proofs.space_of.Goals as goal
 
 pub returns : goal.returns

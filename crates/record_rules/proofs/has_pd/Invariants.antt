@@ -3,14 +3,10 @@ use Prim.Native.Nat.{◌-◌, ◌≤◌}
 use mathlib.Core.Path.{◌≡◌}
 use mathlib.Core.Bool.{◌&&◌}
 use lib.Dec.{eqb}
-use borrow.Author.Rules.{rules}
 use Rattle.words.specs.Sizes.{records}
 use Rattle.interface.specs.Basics.{any_below}
 use Rattle.interface.specs.Places.{PD, domain_word, kind_of}
-use Rattle.interface.specs.Damage.{has_pd}
-use Rattle.interface.proofs.Basics.LoopLaws.{any_below_zero, any_below_done}
 use Rattle.record_rules.specs.RecordKeeping.{records_in}
-use Rattle.record_rules.proofs.PdLaws.{pd_found}
 use Rattle.record_rules.proofs.has_pd.Given as goal
 
 abbrev pub invariant-loop-at : goal.invariant-loop-at

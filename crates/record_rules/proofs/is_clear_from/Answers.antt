@@ -2,10 +2,7 @@
 use Prim.Native.Nat.{◌-◌, ◌≤◌}
 use mathlib.Core.Path.{◌≡◌}
 use mathlib.Core.Bool.{◌||◌}
-use lib.Dec.{eqb, ltb}
 use borrow.Author.Rules.{rules}
-use Rattle.words.specs.Sizes.{record_words}
-use Rattle.interface.specs.Basics.{all_below}
 use Rattle.interface.specs.Places.{object_at}
 use Rattle.record_rules.proofs.RecordTests.{clear_none, clear_more, clear_done}
 use Rattle.record_rules.proofs.is_clear_from.Goals as goal

@@ -6,8 +6,6 @@ use mathlib.Core.Bool.{true, not}
 use native.Mathlib.Omega.{arith}
 use borrow.Author.Rules.{rules}
 use Rattle.words.specs.Sizes.{records}
-use Rattle.interface.specs.Basics.{all_below}
-use Rattle.interface.specs.Damage.{pds_below, pd_rule}
 use Rattle.interface.proofs.Basics.LoopLaws.{all_below_none, all_below_more, all_below_done, all_below_broken}
 use Rattle.objects.proofs.CountingLaws.{no_pds, pds_more, pds_same}
 use Rattle.record_rules.specs.RecordKeeping.{records_in}

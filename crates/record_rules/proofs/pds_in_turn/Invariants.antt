@@ -1,19 +1,11 @@
 -- The loop's invariant: the count is that of the PDs before the record, and each of these keeps the rule. The measure is how many used records are left.
 use Prim.Native.Nat.{◌-◌, ◌≤◌}
-use mathlib.Core.Path.{◌≡◌, refl, sym, ◌∙◌}
+use mathlib.Core.Path.{◌≡◌, ◌∙◌}
 use mathlib.Core.Logic.{⊎_elim}
 use mathlib.Core.Bool.{true}
-use native.Mathlib.Omega.{arith}
-use borrow.Author.Rules.{rules}
-use Rattle.words.specs.Sizes.{records}
 use Rattle.interface.specs.Basics.{all_below}
 use Rattle.interface.specs.Damage.{pds_below, pd_rule}
-use Rattle.interface.proofs.Basics.LoopLaws.{all_below_none, all_below_more, all_below_done, all_below_broken}
-use Rattle.objects.proofs.CountingLaws.{no_pds, pds_more, pds_same}
 use Rattle.record_rules.specs.RecordKeeping.{records_in}
-use Rattle.record_rules.proofs.PdLaws.{pds_small, pds_end, out_of_turn}
-use Rattle.record_rules.proofs.RecordTests.{pd_not}
-use Rattle.record_rules.proofs.RestLaws.{rest_out, rest_in}
 use Rattle.record_rules.proofs.pds_in_turn.Given as goal
 
 abbrev pub invariant-loop-at : goal.invariant-loop-at

@@ -2,12 +2,9 @@
 use Prim.Native.Nat.{◌-◌, ◌≤◌}
 use mathlib.Core.Path.{◌≡◌}
 use mathlib.Core.Bool.{true}
-use borrow.Author.Rules.{rules}
 use Rattle.words.specs.Sizes.{records}
 use Rattle.interface.specs.Basics.{all_below}
-use Rattle.interface.proofs.Basics.LoopLaws.{all_below_none, all_below_more, all_below_done, all_below_broken}
 use Rattle.record_rules.specs.RecordKeeping.{records_in, record_keeps}
-use Rattle.record_rules.proofs.RestLaws.{free_decides}
 use Rattle.record_rules.proofs.records_keep.Given as goal
 
 abbrev pub invariant-loop-at : goal.invariant-loop-at

@@ -3,11 +3,9 @@ use Prim.Native.Nat.{◌-◌, ◌*◌, ◌≤◌}
 use mathlib.Core.Path.{◌≡◌, refl}
 use mathlib.Core.Bool.{◌||◌}
 use native.Mathlib.Omega.{arith}
-use lib.Dec.{eqb, ltb}
 use borrow.Author.Rules.{rules}
 use Rattle.words.specs.Sizes.{record_words}
-use Rattle.interface.specs.Basics.{all_below, word}
-use Rattle.interface.specs.Places.{object_table_words}
+use Rattle.interface.specs.Basics.{word}
 use Rattle.record_rules.proofs.RecordTests.{clear_none, clear_more}
 use Rattle.record_rules.proofs.RestLaws.{rest_done}
 use Rattle.record_rules.proofs.rest_is_clear.Goals as goal

@@ -1,15 +1,11 @@
 -- The loop's invariant: the words from the record on up to the loop's are 0 or not, as the loop found. The measure is how many words are left.
 use Prim.Native.Nat.{◌-◌, ◌*◌, ◌≤◌}
-use mathlib.Core.Path.{◌≡◌, refl}
+use mathlib.Core.Path.{◌≡◌}
 use mathlib.Core.Bool.{◌||◌}
-use native.Mathlib.Omega.{arith}
 use lib.Dec.{eqb, ltb}
-use borrow.Author.Rules.{rules}
 use Rattle.words.specs.Sizes.{record_words}
 use Rattle.interface.specs.Basics.{all_below, word}
 use Rattle.interface.specs.Places.{object_table_words}
-use Rattle.record_rules.proofs.RecordTests.{clear_none, clear_more}
-use Rattle.record_rules.proofs.RestLaws.{rest_done}
 use Rattle.record_rules.proofs.rest_is_clear.Given as goal
 
 abbrev pub invariant-loop-at : goal.invariant-loop-at

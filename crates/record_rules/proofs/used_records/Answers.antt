@@ -1,5 +1,4 @@
 -- The lowest free record is the first, and where none is free all are used.
-use borrow.Author.Rules.{rules}
 use Rattle.record_rules.proofs.RestLaws.{none_free, first_free}
 use Rattle.record_rules.proofs.used_records.Goals as goal
 

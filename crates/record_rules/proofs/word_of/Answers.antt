@@ -1,5 +1,4 @@
 -- The record is the one counted to.
-use borrow.Author.Rules.{rules}
 use Rattle.record_rules.proofs.word_of.Goals as goal
 
 pub returns : goal.returns

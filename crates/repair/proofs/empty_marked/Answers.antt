@@ -1,13 +1,8 @@
 -- The places below the loop's number, which is that of a marked place or past the last, are empty where they are marked, and the others as they were.
 use Prim.Native.Nat.{◌-◌, ◌<◌, ◌≤◌}
 use mathlib.Core.Path.{◌≡◌, sym, ◌∙◌}
-use mathlib.Core.Bool.{true}
 use native.Mathlib.Omega.{arith}
-use Rattle.words.specs.Sizes.{places}
-use Rattle.interface.specs.Places.{nothing, cap_table}
-use Rattle.marks.specs.PlaceBits.{bit_at}
-use Rattle.tree.proofs.MarkedLaws.{left_below, left_none, left_sized, left_more, left_all}
-use borrow.Author.Rules.{rules}
+use Rattle.tree.proofs.MarkedLaws.{left_none, left_sized, left_more, left_all}
 use Rattle.repair.proofs.empty_marked.Goals as goal
 
 pub loop-number-init : goal.loop-number-init

@@ -1,13 +1,11 @@
 -- The places below the loop's number, which is that of a marked place or past the last, are empty where they are marked, and the others as they were.
 use Prim.Native.Nat.{◌-◌, ◌<◌, ◌≤◌}
-use mathlib.Core.Path.{◌≡◌, sym, ◌∙◌}
+use mathlib.Core.Path.{◌≡◌, ◌∙◌}
 use mathlib.Core.Bool.{true}
-use native.Mathlib.Omega.{arith}
 use Rattle.words.specs.Sizes.{places}
 use Rattle.interface.specs.Places.{nothing, cap_table}
 use Rattle.marks.specs.PlaceBits.{bit_at}
-use Rattle.tree.proofs.MarkedLaws.{left_below, left_none, left_sized, left_more, left_all}
-use borrow.Author.Rules.{rules}
+use Rattle.tree.proofs.MarkedLaws.{left_below}
 use Rattle.repair.proofs.empty_marked.Given as goal
 
 abbrev pub invariant-loop-number : goal.invariant-loop-number

@@ -1,12 +1,9 @@
 -- The answer so far is that of the places passed.
 use Prim.Native.Nat.{◌-◌, ◌≤◌}
 use mathlib.Core.Path.{◌≡◌}
-use native.Mathlib.Omega.{arith}
 use Rattle.words.specs.Sizes.{stride}
 use Rattle.interface.specs.Basics.{all_below}
-use Rattle.interface.proofs.Basics.LoopLaws.{so_far_none, so_far_more, so_far_done}
 use Rattle.repair.specs.Mending.{place_mends}
-use borrow.Author.Rules.{rules}
 use Rattle.repair.proofs.hypervisor_mends.Given as goal
 
 abbrev pub invariant-loop-at : goal.invariant-loop-at

@@ -3,7 +3,6 @@ use mathlib.Core.Bool.{not}
 use mathlib.Core.Path.{ap}
 use native.Mathlib.Omega.{arith}
 use Rattle.repair.proofs.MendLaws.{is_live_there, goes_null, stays_in_0, goes_broken}
-use borrow.Author.Rules.{rules}
 use Rattle.repair.proofs.is_lost.Goals as goal
 
 pub returns-then-not-is_live : goal.returns-then-not-is_live

@@ -4,7 +4,6 @@ use mathlib.Core.Path.{ap}
 use Rattle.interface.proofs.Basics.LoopLaws.{answered_yes}
 use Rattle.soundness.proofs.KeepingLaws.{places_right, objects_right, numbered_so, kept_so}
 use Rattle.repair.proofs.MendLaws.{mends_sizes_broken, mends_pds_broken, mends_records_broken, mends_decide}
-use borrow.Author.Rules.{rules}
 use Rattle.repair.proofs.is_mendable.Goals as goal
 
 pub returns-then-not-are_sized : goal.returns-then-not-are_sized

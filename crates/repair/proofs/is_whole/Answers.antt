@@ -3,9 +3,7 @@ use mathlib.Core.Bool.{not}
 use Prim.Native.Nat.{◌<◌}
 use mathlib.Core.Path.{refl, ap}
 use native.Mathlib.Omega.{arith}
-use Rattle.words.specs.Sizes.{places}
-use Rattle.repair.proofs.WalkLaws.{Walked, walk_starts, walk_broken, walk_ends, walk_above, walk_on, walk_over}
-use borrow.Author.Rules.{rules}
+use Rattle.repair.proofs.WalkLaws.{walk_starts, walk_broken, walk_ends, walk_above, walk_on, walk_over}
 use Rattle.repair.proofs.is_whole.Goals as goal
 
 pub loop-left-init : goal.loop-left-init

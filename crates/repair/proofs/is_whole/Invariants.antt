@@ -1,10 +1,7 @@
 -- The walk so far: the chain of the first place is whole exactly where that of the place come to is, within the places left.
 use Prim.Native.Nat.{◌<◌}
-use mathlib.Core.Path.{refl}
-use native.Mathlib.Omega.{arith}
 use Rattle.words.specs.Sizes.{places}
-use Rattle.repair.proofs.WalkLaws.{Walked, walk_starts, walk_broken, walk_ends, walk_above, walk_on, walk_over}
-use borrow.Author.Rules.{rules}
+use Rattle.repair.proofs.WalkLaws.{Walked}
 use Rattle.repair.proofs.is_whole.Given as goal
 
 abbrev pub invariant-loop-left : goal.invariant-loop-left

@@ -1,6 +1,5 @@
 -- The tests are the definition's.
 use Rattle.repair.proofs.WalkLaws.{link_told}
-use borrow.Author.Rules.{rules}
 use Rattle.repair.proofs.link_keeps.Goals as goal
 
 pub returns : goal.returns

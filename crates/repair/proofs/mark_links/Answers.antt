@@ -2,12 +2,7 @@
 use Prim.Native.Nat.{◌-◌, ◌≤◌}
 use mathlib.Core.Path.{◌≡◌, ◌∙◌}
 use native.Mathlib.Omega.{arith}
-use lib.ListN.{length}
-use Rattle.words.specs.Sizes.{places}
-use Rattle.interface.specs.Places.{view}
-use Rattle.marks.specs.PlaceBits.{mark_words}
-use Rattle.repair.specs.Mending.{link_keeps}
-use Rattle.repair.proofs.MarkingLaws.{MarkedBelow, none_marked, marked_more, marked_all}
+use Rattle.repair.proofs.MarkingLaws.{none_marked, marked_more, marked_all}
 use Rattle.repair.proofs.mark_links.Goals as goal
 
 pub loop-at-init : goal.loop-at-init

@@ -3,11 +3,7 @@ use Prim.Native.Nat.{◌-◌, ◌≤◌}
 use mathlib.Core.Path.{◌≡◌, ◌∙◌}
 use mathlib.Core.Logic.{⊎_elim}
 use native.Mathlib.Omega.{arith}
-use lib.ListN.{length}
-use Rattle.words.specs.Sizes.{places}
-use Rattle.marks.specs.PlaceBits.{mark_words}
-use Rattle.repair.proofs.MendLaws.{LostBelow, none_lost, lost_more, lost_all, CountedBelow, none_counted, counted_more, counted_same}
-use borrow.Author.Rules.{rules}
+use Rattle.repair.proofs.MendLaws.{none_lost, lost_more, lost_all, none_counted, counted_more, counted_same}
 use Rattle.repair.proofs.mark_lost.Goals as goal
 use Rattle.repair.proofs.mark_lost.Goals.{then-goes-is_live, else-goes-is_live}
 

@@ -2,12 +2,10 @@
 use Prim.Native.Nat.{◌-◌, ◌≤◌}
 use mathlib.Core.Path.{◌≡◌, ◌∙◌}
 use mathlib.Core.Logic.{⊎_elim}
-use native.Mathlib.Omega.{arith}
 use lib.ListN.{length}
 use Rattle.words.specs.Sizes.{places}
 use Rattle.marks.specs.PlaceBits.{mark_words}
-use Rattle.repair.proofs.MendLaws.{LostBelow, none_lost, lost_more, lost_all, CountedBelow, none_counted, counted_more, counted_same}
-use borrow.Author.Rules.{rules}
+use Rattle.repair.proofs.MendLaws.{LostBelow, CountedBelow}
 use Rattle.repair.proofs.mark_lost.Given as goal
 
 abbrev pub invariant-loop-at : goal.invariant-loop-at

@@ -1,6 +1,5 @@
 -- What goes is marked on the table as it is found, and then emptied.
 use Rattle.repair.proofs.MendLaws.{mended}
-use borrow.Author.Rules.{rules}
 use Rattle.repair.proofs.mend.Goals as goal
 
 pub returns : goal.returns

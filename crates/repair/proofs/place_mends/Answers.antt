@@ -1,6 +1,5 @@
 -- A live place is held against boot's, and of a null one boot's is asked whether it was null.
 use Rattle.repair.proofs.MendLaws.{mends_live, mends_null}
-use borrow.Author.Rules.{rules}
 use Rattle.repair.proofs.place_mends.Goals as goal
 
 pub returns-then-is_live : goal.returns-then-is_live

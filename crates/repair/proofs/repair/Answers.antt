@@ -2,7 +2,6 @@
 use mathlib.Core.Bool.{not}
 use mathlib.Core.Path.{ap}
 use Rattle.repair.proofs.MendLaws.{repair_refused, fits_places, fits_objects, repair_done}
-use borrow.Author.Rules.{rules}
 use Rattle.repair.proofs.repair.Goals as goal
 
 pub returns-then-not-is_mendable : goal.returns-then-not-is_mendable

@@ -1,12 +1,10 @@
 -- The loop's invariant: the fault of the tables is the first among the rules from this one on. The measure is how many rules are left.
 use Prim.Native.Nat.{◌+◌, ◌-◌, ◌≤◌}
 use mathlib.Core.Path.{◌≡◌}
-use borrow.Author.Rules.{rules}
 use Rattle.interface.specs.Places.{tables, view}
 use Rattle.interface.specs.Damage.{first_fault, fault}
 use Rattle.soundness.specs.RuleNumbers.{first_rule, last_rule}
-use Rattle.soundness.proofs.KeepingLaws.{places_right, objects_right}
-use Rattle.soundness.proofs.FaultLaws.{rules_from, fault_lengths, fault_starts, fault_record, fault_place, fault_next, fault_none}
+use Rattle.soundness.proofs.FaultLaws.{rules_from}
 use Rattle.soundness.proofs.first_fault.Given as goal
 
 abbrev pub invariant-loop-rule : goal.invariant-loop-rule

@@ -3,10 +3,8 @@
 use Prim.Native.Nat.{ℕ}
 use mathlib.Core.Path.{sym, ap, ◌∙◌}
 use Rattle.hip_format.specs.Writer.{written_number}
-use Rattle.hip_format.specs.declared.Written.{Written}
 use Rattle.abi.specs.Packing.{joined}
 use Rattle.abi.specs.PagePacking.{packed_written}
-use borrow.Author.Rules.{rules}
 use Rattle.abi.proofs.pages.pack_written.Goals as goal
 
 pub returns-in-Type : goal.returns-in-Type

@@ -3,7 +3,6 @@ use mathlib.Core.Path.{refl, sym, ap, ◌∙◌}
 use Prim.Native.Nat.{ℕ}
 use Rattle.abi.specs.Packing.{joined}
 use Rattle.abi.proofs.PagePackingLaws.{packs_cpu}
-use borrow.Author.Rules.{rules}
 use Rattle.abi.proofs.pages.rudozhev_hip_cpu.Goals as goal
 
 pub returns-in-Nothing : goal.returns-in-Nothing

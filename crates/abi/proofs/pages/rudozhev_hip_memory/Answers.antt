@@ -1,6 +1,5 @@
 -- The descriptor that is found, with its type as it was stored.
 use Rattle.abi.proofs.PagePackingLaws.{reads_no_memory, reads_memory}
-use borrow.Author.Rules.{rules}
 use Rattle.abi.proofs.pages.rudozhev_hip_memory.Goals as goal
 
 pub returns-in-Nothing : goal.returns-in-Nothing

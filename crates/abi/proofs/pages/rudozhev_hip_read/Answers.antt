@@ -2,7 +2,6 @@
 use native.Mathlib.Omega.{arith}
 use Rattle.hip_reader.proofs.ReadLaws.{refuses, accepts, short_page}
 use Rattle.abi.proofs.PagePackingLaws.{reads_refused, reads_accepted}
-use borrow.Author.Rules.{rules}
 use Rattle.abi.proofs.pages.rudozhev_hip_read.Goals as goal
 
 pub overflow_mul-result : goal.overflow_mul-result

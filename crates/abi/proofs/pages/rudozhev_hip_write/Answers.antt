@@ -3,7 +3,6 @@ use mathlib.Core.Path.{ap, ◌∙◌}
 use Rattle.hip_format.specs.Writer.{given, writing}
 use Rattle.hip_format.specs.declared.Header.{Header}
 use Rattle.abi.proofs.PagePackingLaws.{writes}
-use borrow.Author.Rules.{rules}
 use Rattle.abi.proofs.pages.rudozhev_hip_write.Goals as goal
 
 pub returns : goal.returns

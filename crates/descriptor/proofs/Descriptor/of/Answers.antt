@@ -1,5 +1,4 @@
 -- The fields of a proper range are small enough that no part of the sum leaves a word.
-use borrow.Author.Rules.{rules}
 use native.Mathlib.Omega.{arith}
 use Rattle.descriptor.proofs.DescriptorLaws.{proper_order, proper_end}
 use Rattle.descriptor.proofs.Descriptor.of.Goals as goal

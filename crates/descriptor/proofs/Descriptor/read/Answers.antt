@@ -1,10 +1,8 @@
 -- The numbers that the code takes from the word are its fields, and it tests of them what the definition tests.
 use Prim.Native.Nat.{ℕ, ◌-◌, ◌/◌, ◌%◌, ◌^◌, ◌<◌}
 use mathlib.Core.Path.{◌≡◌, refl, sym, ◌∙◌}
-use mathlib.Core.Bool.{Bool, true, false, not}
+use mathlib.Core.Bool.{Bool, true, false}
 use native.Mathlib.Omega.{arith}
-use borrow.Author.Rules.{rules}
-use borrow.Author.Tests.{not-true, not-false}
 use Rattle.words.specs.Sizes.{object}
 use Rattle.descriptor.specs.declared.Reading.TheVariants.{Malformed, Good}
 use Rattle.descriptor.specs.Descriptors.{type_field, mask_field, order_field, well_formed, wrapped, reading}

@@ -1,4 +1,3 @@
-use borrow.Author.Rules.{rules}
 use Rattle.descriptor.proofs.Range.of.Goals as goal
 
 pub returns : goal.returns

@@ -1,5 +1,4 @@
 -- The arm tells the variant, and the rule computes.
-use borrow.Author.Rules.{rules}
 use Rattle.descriptor.specs.Descriptors.{matched}
 use Rattle.descriptor.proofs.Reading.beside_malformed.Goals as goal
 

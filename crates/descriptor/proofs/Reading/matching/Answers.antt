@@ -1,7 +1,6 @@
 -- The arms tell the variants of both readings, and where both are ranges the test tells whether they are of one space.
 use mathlib.Core.Path.{◌≡◌, sym}
 use native.Mathlib.Omega.{arith}
-use borrow.Author.Rules.{rules}
 use Rattle.descriptor.specs.Descriptors.{matched}
 use Rattle.descriptor.proofs.DescriptorLaws.{matched_null, matched_both, matched_apart}
 use Rattle.descriptor.proofs.Reading.matching.Goals as goal

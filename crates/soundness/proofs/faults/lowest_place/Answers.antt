@@ -1,13 +1,8 @@
 -- The loop's invariant: each place passed keeps the rule. The measure is how many places are left.
 use Prim.Native.Nat.{◌-◌, ◌≤◌}
 use mathlib.Core.Path.{◌≡◌}
-use mathlib.Core.Bool.{true}
 use borrow.Author.Rules.{rules}
-use Rattle.words.specs.Sizes.{places}
-use Rattle.interface.specs.Places.{shown}
-use Rattle.interface.specs.Basics.{all_below}
 use Rattle.interface.proofs.Basics.LoopLaws.{all_below_none, all_below_more}
-use Rattle.soundness.specs.RuleNumbers.{rule_of}
 use Rattle.soundness.proofs.LowestLaws.{lowest_first, lowest_none}
 use Rattle.soundness.proofs.faults.lowest_place.Goals as goal
 

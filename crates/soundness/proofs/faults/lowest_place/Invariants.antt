@@ -2,13 +2,10 @@
 use Prim.Native.Nat.{◌-◌, ◌≤◌}
 use mathlib.Core.Path.{◌≡◌}
 use mathlib.Core.Bool.{true}
-use borrow.Author.Rules.{rules}
 use Rattle.words.specs.Sizes.{places}
 use Rattle.interface.specs.Places.{shown}
 use Rattle.interface.specs.Basics.{all_below}
-use Rattle.interface.proofs.Basics.LoopLaws.{all_below_none, all_below_more}
 use Rattle.soundness.specs.RuleNumbers.{rule_of}
-use Rattle.soundness.proofs.LowestLaws.{lowest_first, lowest_none}
 use Rattle.soundness.proofs.faults.lowest_place.Given as goal
 
 abbrev pub invariant-loop-at : goal.invariant-loop-at
