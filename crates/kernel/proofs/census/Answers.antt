@@ -6,7 +6,6 @@ use borrow.Author.Tests.{not-true, not-false}
 use Rattle.interface.specs.Places.{tables}
 use Rattle.interface.specs.Damage.{sound}
 use Rattle.kernel.proofs.FaceLaws.{showing_heirs, census_refused, census_counted, census_lengths, census_links}
-use borrow.Author.Rules.{rules}
 use Rattle.kernel.proofs.census.Goals as goal
 use Rattle.kernel.proofs.census.Goals.{Else-not-is_sound}
 

@@ -1,6 +1,5 @@
 -- Sound tables are served, and damaged ones refused.
 use mathlib.Core.Path.{sym, ◌∙◌}
-use borrow.Author.Rules.{rules}
 use Rattle.interface.specs.Verdicts.{Call}
 use Rattle.interface.specs.Outcomes.{call_of}
 use Rattle.kernel.proofs.FaceLaws.{going_on, damaged_outcome}

@@ -1,6 +1,5 @@
 -- The window is stored in a block of zeros.
 use mathlib.Core.Path.{refl}
-use borrow.Author.Rules.{rules}
 use Rattle.interface.specs.Basics.{listed, put}
 use Rattle.messages.specs.Messages.{window_block}
 use Rattle.messages.proofs.window_block.Goals as goal
