@@ -1,134 +1,129 @@
 // Prints information pages as text: those that the arguments name, one after the other, or the one on standard input.
 #![tactic(auto)]
 
-ghost use Rattle.std.specs.Prelude.{◌≤◌, length};
+ghost use Rattle.std.specs.Prelude.{◌≤◌, length, IfOk};
 ghost use Rattle.hip_text.specs.PageText.{line_bytes};
 
-use libc::{STDIN_FILENO, STDOUT_FILENO};
+use command_line::{PATH_BYTES, argument, argument_count, fail};
+use std::fs::File;
+use std::io;
+use std::io::{Eprint, Input, Print, Read};
+use std::rt::{Env, Files};
 
-// What was read of a page: how many bytes, and whether no read failed.
-#[derive(Clone, Copy)]
-struct Taken {
-    filled: usize,
-    is_read: bool,
-}
+// The size of each buffer: the longest page, and the lines that wait.
+const BUFFER_BYTES: usize = 65536;
 
-// Reads a page to its end, or as much of it as the buffer takes.
-fn read_page(descriptor: i32, page: &mut [u8]) -> Taken
-    ensures { result.filled ≤ length page.new }
+// Reads a page to its end, or as much of it as the buffer takes. Answers how many bytes that is.
+fn read_page(source: &mut impl Read, page: &mut [u8]) -> io::Result<usize>
+    ensures { IfOk result (λ filled. filled ≤ length page.new) }
 {
     let mut filled: usize = 0;
     while filled < page.len() {
-        let got = libc::read(descriptor, &mut page[filled..]);
-        if got < 0 {
-            return Taken {
-                filled,
-                is_read: false,
-            };
-        }
-        let more = io::count(got, &page[filled..]);
+        let more = source.read(&mut page[filled..])?;
         if more == 0 {
-            return Taken {
-                filled,
-                is_read: true,
-            };
+            return Ok(filled);
         }
         filled += more;
     }
-    Taken {
-        filled,
-        is_read: true,
-    }
+    Ok(filled)
 }
 
 // Writes the lines that wait to standard output.
-fn flush(out: &[u8], waiting: usize)
+fn flush(rt: &(impl Print + Eprint), out: &[u8], waiting: usize)
     requires { waiting ≤ length out.now }
 {
-    if !io::write_all(STDOUT_FILENO, &out[..waiting]) {
-        os::fail(b"standard output");
+    if let Err(error) = rt.write_all(&out[..waiting]) {
+        fail(rt, "standard output", error);
     }
 }
 
 // Prints the lines of a page, as many at a time as the buffer takes.
-fn print_page(page: &[u8], out: &mut [u8])
+fn print_page(rt: &(impl Print + Eprint), page: &[u8], out: &mut [u8])
     requires { line_bytes ≤ length out.old }
 {
     let mut spelled = hip_text::spell(page, 0, out);
     while spelled.next < spelled.lines {
-        flush(out, spelled.count);
+        flush(rt, out, spelled.count);
         spelled = hip_text::spell(page, spelled.next, out);
     }
-    flush(out, spelled.count);
+    flush(rt, out, spelled.count);
 }
 
-// Prints the page that a descriptor gives; one that cannot be read is named on standard error.
-fn print_from(descriptor: i32, name: &[u8], page: &mut [u8], out: &mut [u8])
+// Prints the page that a source gives; one that cannot be read is named on standard error.
+fn print_from(
+    rt: &(impl Print + Eprint),
+    source: &mut impl Read,
+    name: &str,
+    page: &mut [u8],
+    out: &mut [u8],
+)
     requires { line_bytes ≤ length out.old }
 {
-    let taken = read_page(descriptor, page);
-    if !taken.is_read {
-        os::fail(name);
-        return;
+    match read_page(source, page) {
+        Ok(filled) => print_page(rt, &page[..filled], out),
+        Err(error) => fail(rt, name, error),
     }
-    let filled = taken.filled;
-    print_page(&page[..filled], out);
 }
 
 // Prints the page in a file; one that cannot be opened is named on standard error.
-fn print_file(name: &[u8], page: &mut [u8], out: &mut [u8])
+fn print_file(rt: &(impl Files + Print + Eprint), name: &str, page: &mut [u8], out: &mut [u8])
     requires { line_bytes ≤ length out.old }
 {
-    let descriptor = os::open_read(name);
-    if descriptor < 0 {
-        os::fail(name);
-        return;
+    match File::open(rt, name) {
+        Ok(mut file) => print_from(rt, &mut file, name, page, out),
+        Err(error) => fail(rt, name, error),
     }
-    print_from(descriptor, name, page, out);
-    libc::close(descriptor);
+}
+
+// Prints the page on standard input.
+fn print_standard_input(rt: &(impl Input + Print + Eprint), page: &mut [u8], out: &mut [u8])
+    requires { line_bytes ≤ length out.old }
+{
+    print_from(rt, &mut rt.reader(), "standard input", page, out);
 }
 
 // Whether a name is the one that stands for standard input.
-fn is_dash(name: &[u8]) -> bool {
-    if name.len() == 1 {
-        return name[0] == b'-';
-    }
-    false
+fn is_dash(name: &str) -> bool {
+    name == "-"
 }
 
 // Prints the page that an argument names.
-fn print_argument(index: usize, page: &mut [u8], out: &mut [u8])
+fn print_argument(
+    rt: &(impl Env + Files + Input + Print + Eprint),
+    index: usize,
+    page: &mut [u8],
+    out: &mut [u8],
+)
     requires { line_bytes ≤ length out.old }
 {
-    let mut path = io::buffer();
-    let length = os::arg(index, &mut path);
-    if os::errno() != 0 {
-        os::fail(b"argument");
-        return;
+    let mut path = [0u8; PATH_BYTES];
+    match argument(rt, index, &mut path) {
+        Ok(name) if is_dash(name) => print_standard_input(rt, page, out),
+        Ok(name) => print_file(rt, name, page, out),
+        Err(error) => fail(rt, "argument", error),
     }
-    if is_dash(&path[..length]) {
-        print_from(STDIN_FILENO, b"standard input", page, out);
-        return;
-    }
-    print_file(&path[..length], page, out);
 }
 
 // Prints what the arguments name, the program's own name apart, or standard input where there is none.
-fn print_arguments(page: &mut [u8], out: &mut [u8])
+fn print_arguments(
+    rt: &(impl Env + Files + Input + Print + Eprint),
+    page: &mut [u8],
+    out: &mut [u8],
+)
     requires { line_bytes ≤ length out.old }
 {
-    let count = os::arg_count();
+    let count = argument_count(rt);
     if count < 2 {
-        print_from(STDIN_FILENO, b"standard input", page, out);
+        print_standard_input(rt, page, out);
         return;
     }
     for index in 1..count {
-        print_argument(index, page, out);
+        print_argument(rt, index, page, out);
     }
 }
 
-fn main() {
-    let mut page = io::large_buffer();
-    let mut out = io::large_buffer();
-    print_arguments(&mut page, &mut out);
+fn main(rt: HostRuntime) {
+    let mut page = [0u8; BUFFER_BYTES];
+    let mut out = [0u8; BUFFER_BYTES];
+    print_arguments(&rt, &mut page, &mut out);
 }
