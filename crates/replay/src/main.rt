@@ -7,27 +7,33 @@ ghost use Rattle.interface.specs.Damage.{sound};
 ghost use Rattle.journal_lines.specs.Lines.{line_bytes};
 ghost use Rattle.turns.specs.Buffers.{Waits, Inside, line_start, last_after, Turn, KeepsUnplayed, begun, TurnsToTheEnd};
 
-use libc::{STDIN_FILENO, STDOUT_FILENO};
+use command_line::{PATH_BYTES, argument, argument_count, fail};
 use playback::Found;
+use std::fs::File;
+use std::io::{Eprint, Input, Print, Read};
+use std::rt::{Env, Files};
 use turns::Progress;
 use words::sizes;
 
+// The size of each buffer: the bytes of a journal, and the lines that wait.
+const BUFFER_BYTES: usize = 65536;
+
 // Writes the lines that wait to standard output.
-fn flush(out: &[u8], waiting: usize)
+fn flush(rt: &(impl Print + Eprint), out: &[u8], waiting: usize)
     requires { waiting ≤ length out.now }
 {
-    if !io::write_all(STDOUT_FILENO, &out[..waiting]) {
-        os::fail(b"standard output");
+    if let Err(error) = rt.write_all(&out[..waiting]) {
+        fail(rt, "standard output", error);
     }
 }
 
 // Where the last lines go: after the lines that wait or, if two of the longest lines do not fit there, at the front, once these are written.
-fn last_start(out: &[u8], waiting: usize) -> usize
+fn last_start(rt: &(impl Print + Eprint), out: &[u8], waiting: usize) -> usize
     requires { Waits out.now waiting }
     ensures { result + 2 * line_bytes ≤ length out.now }
 {
     if out.len() - waiting < 2 * journal_lines::LINE_BYTES {
-        flush(out, waiting);
+        flush(rt, out, waiting);
         return 0;
     }
     waiting
@@ -35,22 +41,31 @@ fn last_start(out: &[u8], waiting: usize) -> usize
 
 // Reads more bytes into a buffer, after those that stand at its front. Answers how many stand there then: no more than before at the end of the input, and after an error,
 // which is named on standard error.
-fn read_more(descriptor: i32, name: &[u8], buffer: &mut [u8], kept: usize) -> usize
+fn read_more(
+    rt: &impl Eprint,
+    source: &mut impl Read,
+    name: &str,
+    buffer: &mut [u8],
+    kept: usize,
+) -> usize
     requires { kept ≤ length buffer.old }
     ensures lower_bound { (kept ≤ result) × (result ≤ length buffer.new) }
     ensures buffer_unchanged { take kept buffer.new ≡ take kept buffer.old }
 {
-    let got = libc::read(descriptor, &mut buffer[kept..]);
-    if got < 0 {
-        os::fail(name);
+    match source.read(&mut buffer[kept..]) {
+        Ok(more) => kept + more,
+        Err(error) => {
+            fail(rt, name, error);
+            kept
+        }
     }
-    kept + io::count(got, &buffer[kept..])
 }
 
 // Plays on: writes the lines that wait where there was no room for one more, and otherwise reads more of the journal.
 fn replay_more(
-    descriptor: i32,
-    name: &[u8],
+    rt: &(impl Print + Eprint),
+    source: &mut impl Read,
+    name: &str,
     progress: Progress,
     places: &mut [u32],
     objects: &mut [u32],
@@ -68,7 +83,7 @@ fn replay_more(
     let kept = turns::move_to_front(input, progress.at, progress.filled);
     let next = progress.next;
     if turns::is_whole(next) {
-        flush(out, progress.waiting);
+        flush(rt, out, progress.waiting);
         return turns::play(
             &input[..kept],
             progress.is_last,
@@ -79,7 +94,7 @@ fn replay_more(
             out,
         );
     }
-    let filled = read_more(descriptor, name, input, kept);
+    let filled = read_more(rt, source, name, input, kept);
     turns::play(
         &input[..filled],
         filled == kept,
@@ -93,8 +108,9 @@ fn replay_more(
 
 // Replays a journal to its end. A proved loop has to end, and nothing says that a journal does: so the loop counts its turns down from a number that no run uses up.
 fn replay_all(
-    descriptor: i32,
-    name: &[u8],
+    rt: &(impl Print + Eprint),
+    source: &mut impl Read,
+    name: &str,
     waiting: usize,
     places: &mut [u32],
     objects: &mut [u32],
@@ -119,7 +135,7 @@ fn replay_all(
     };
     let mut turns = u64::MAX;
     while turns > 0 && !progress.is_over {
-        progress = replay_more(descriptor, name, progress, places, objects, input, out);
+        progress = replay_more(rt, source, name, progress, places, objects, input, out);
         turns -= 1;
     }
     progress
@@ -127,8 +143,9 @@ fn replay_all(
 
 // Replays a journal, on tables of zero words that are filled as at boot, and adds its last lines. Answers how many bytes wait then.
 fn replay_journal(
-    descriptor: i32,
-    name: &[u8],
+    rt: &(impl Print + Eprint),
+    source: &mut impl Read,
+    name: &str,
     input: &mut [u8],
     out: &mut [u8],
     waiting: usize,
@@ -140,7 +157,8 @@ fn replay_journal(
     let mut objects = [0u32; sizes::OBJECT_TABLE_WORDS];
     kernel::boot(&mut places, &mut objects);
     let progress = replay_all(
-        descriptor,
+        rt,
+        source,
         name,
         waiting,
         &mut places,
@@ -149,78 +167,94 @@ fn replay_journal(
         out,
     );
     let next = progress.next;
-    let start = last_start(out, progress.waiting);
+    let start = last_start(rt, out, progress.waiting);
     playback::add_last_lines(next, progress.done, out, start)
 }
 
 // Replays the journal on standard input. Answers how many bytes wait then.
-fn replay_standard_input(input: &mut [u8], out: &mut [u8], waiting: usize) -> usize
+fn replay_standard_input(
+    rt: &(impl Input + Print + Eprint),
+    input: &mut [u8],
+    out: &mut [u8],
+    waiting: usize,
+) -> usize
     requires { Waits out.old waiting }
     ensures { Waits out.new result }
 {
-    replay_journal(STDIN_FILENO, b"standard input", input, out, waiting)
+    replay_journal(rt, &mut rt.reader(), "standard input", input, out, waiting)
 }
 
 // Replays the journal in a file; one that cannot be opened is named on standard error. Answers how many bytes wait then.
-fn replay_file(name: &[u8], input: &mut [u8], out: &mut [u8], waiting: usize) -> usize
+fn replay_file(
+    rt: &(impl Files + Print + Eprint),
+    name: &str,
+    input: &mut [u8],
+    out: &mut [u8],
+    waiting: usize,
+) -> usize
     requires { Waits out.old waiting }
     ensures { Waits out.new result }
 {
-    let descriptor = os::open_read(name);
-    if descriptor < 0 {
-        os::fail(name);
-        return waiting;
+    match File::open(rt, name) {
+        Ok(mut file) => replay_journal(rt, &mut file, name, input, out, waiting),
+        Err(error) => {
+            fail(rt, name, error);
+            waiting
+        }
     }
-    let after = replay_journal(descriptor, name, input, out, waiting);
-    libc::close(descriptor);
-    after
 }
 
 // Whether a name is the one that stands for standard input.
-fn is_dash(name: &[u8]) -> bool {
-    if name.len() == 1 {
-        return name[0] == b'-';
-    }
-    false
+fn is_dash(name: &str) -> bool {
+    name == "-"
 }
 
 // Replays the journal that an argument names. Answers how many bytes wait then.
-fn replay_argument(index: usize, input: &mut [u8], out: &mut [u8], waiting: usize) -> usize
+fn replay_argument(
+    rt: &(impl Env + Files + Input + Print + Eprint),
+    index: usize,
+    input: &mut [u8],
+    out: &mut [u8],
+    waiting: usize,
+) -> usize
     requires { Waits out.old waiting }
     ensures { Waits out.new result }
 {
-    let mut path = io::buffer();
-    let length = os::arg(index, &mut path);
-    if os::errno() != 0 {
-        os::fail(b"argument");
-        return waiting;
+    let mut path = [0u8; PATH_BYTES];
+    match argument(rt, index, &mut path) {
+        Ok(name) if is_dash(name) => replay_standard_input(rt, input, out, waiting),
+        Ok(name) => replay_file(rt, name, input, out, waiting),
+        Err(error) => {
+            fail(rt, "argument", error);
+            waiting
+        }
     }
-    if is_dash(&path[..length]) {
-        return replay_standard_input(input, out, waiting);
-    }
-    replay_file(&path[..length], input, out, waiting)
 }
 
 // Replays what the arguments name, the program's own name apart, or standard input where there is none. Answers how many bytes wait then.
-fn replay_arguments(input: &mut [u8], out: &mut [u8]) -> usize
+fn replay_arguments(
+    rt: &(impl Env + Files + Input + Print + Eprint),
+    input: &mut [u8],
+    out: &mut [u8],
+) -> usize
     requires { 2 * line_bytes ≤ length out.old }
     ensures { Waits out.new result }
 {
-    let count = os::arg_count();
+    let count = argument_count(rt);
     if count < 2 {
-        return replay_standard_input(input, out, 0);
+        return replay_standard_input(rt, input, out, 0);
     }
     let mut waiting: usize = 0;
     for index in 1..count {
-        waiting = replay_argument(index, input, out, waiting);
+        waiting = replay_argument(rt, index, input, out, waiting);
     }
     waiting
 }
 
 // Replays, and writes the lines that wait at the end.
-fn main() {
-    let mut input = io::large_buffer();
-    let mut out = io::large_buffer();
-    let waiting = replay_arguments(&mut input, &mut out);
-    flush(&out, waiting);
+fn main(rt: HostRuntime) {
+    let mut input = [0u8; BUFFER_BYTES];
+    let mut out = [0u8; BUFFER_BYTES];
+    let waiting = replay_arguments(&rt, &mut input, &mut out);
+    flush(&rt, &out, waiting);
 }
