@@ -95,8 +95,8 @@ fn aftermath(machine: Machine) -> Machine {
 }
 
 // Tells the story, part by part.
-fn main() {
-    let machine = set_up(Machine::blank());
+fn main(rt: HostRuntime) {
+    let machine = set_up(Machine::blank(rt.stdout()));
     let machine = lending(machine);
     let machine = mistake(machine);
     let machine = recovery(machine);
