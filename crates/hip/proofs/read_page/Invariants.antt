@@ -2,11 +2,10 @@
 use Prim.Native.Nat.{◌-◌, ◌≤◌}
 use mathlib.Core.Path.{◌≡◌}
 use lib.ListN.{length}
-use borrow.Author.Rules.{rules}
 use Rattle.hip.proofs.read_page.Given as goal
 
 abbrev pub invariant-loop-filled : goal.invariant-loop-filled
-invariant-loop-filled l = (length l.page ≡ length l.initial.page) × (l.filled ≤ length l.page)
+invariant-loop-filled g l = (length l.page ≡ length l.initial.page) × (l.filled ≤ length l.page)
 
 abbrev pub decreases-loop-filled : goal.decreases-loop-filled
-decreases-loop-filled l = length l.initial.page - l.filled
+decreases-loop-filled g l = length l.initial.page - l.filled
