@@ -26,15 +26,16 @@ packed_fault Lengths = joined 1 0
 packed_fault (AtRecord rule number) = joined rule number
 packed_fault (AtPlace rule place) = joined rule (records + place)
 
--- what boot, repair, a hypercall and a census come to, with the reply as a number
-pub record Answered : Type 0 where
+-- what boot, a hypercall and a census come to, with the reply as a number
+pub record Booting : Type 0 where
   pub word : ℕ
   pub tables : Tables
 
-abbrev pub booting : Tables → Answered
+abbrev pub booting : Tables → Booting
 booting tables = record { word = packed (boot_reply tables); tables = boot_tables tables }
 
-abbrev pub mending : Repairing → Answered
+-- what repair comes to, as boot does
+abbrev pub mending : Repairing → Booting
 mending repairing = record { word = packed repairing.reply; tables = repairing.tables }
 
 pub record Calling : Type 0 where

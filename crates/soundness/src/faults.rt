@@ -2,6 +2,7 @@
 ghost use Rattle.std.specs.Prelude.{◌≡◌, ◌<◌, ◌≤◌, length};
 ghost use Rattle.words.specs.Sizes.{places, records};
 ghost use Rattle.interface.specs.Places.{object_table_words, place_table_words, shown};
+ghost use Rattle.interface.specs.Damage.{live_place};
 ghost use Rattle.record_rules.specs.RecordKeeping.{records_in};
 ghost use Rattle.soundness.specs.RuleNumbers.{lowest_failing, first_rule, last_rule, rule_of};
 
@@ -37,6 +38,14 @@ fn record_keeps_rule(rule: u32, objects: &[u32], number: u32) -> bool
     }
 }
 
+// Rule 11, of a place that may be null.
+fn live_or_null(table: &[u32], objects: &[u32], place: u32) -> bool
+    requires { (length table.now ≡ place_table_words) × (length objects.now ≡ object_table_words) × (place < places) }
+    ensures { result ≡ live_place (shown (record { places = table.now; objects = objects.now })) place }
+{
+    place_rules::live_or_null(table, objects, place)
+}
+
 // Whether a place keeps a rule.
 fn place_keeps_rule(rule: u32, table: &[u32], objects: &[u32], place: u32) -> bool
     requires { (first_rule ≤ rule) × (rule ≤ last_rule) × (length table.now ≡ place_table_words) × (length objects.now ≡ object_table_words) × (place < places) }
@@ -45,7 +54,7 @@ fn place_keeps_rule(rule: u32, table: &[u32], objects: &[u32], place: u32) -> bo
     match rule {
         2 => place_rules::fixed_keeps(table, place),
         10 => place_rules::null_keeps(place_rules::cap_at(table, place)),
-        11 => place_rules::live_or_null(table, objects, place),
+        11 => live_or_null(table, objects, place),
         12 => place_rules::cap_at(table, place).depth <= sizes::GREATEST_DEPTH,
         _ => true,
     }

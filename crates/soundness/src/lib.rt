@@ -12,7 +12,7 @@ mod faults;
 
 // Whether two tables are sound.
 pub fn is_sound(places: &[u32], objects: &[u32]) -> bool
-    ensures { result ≡ sound (record { places = places.entry.now; objects = objects.now }) }
+    ensures { result ≡ sound (record { places = places.now; objects = objects.now }) }
 {
     if !boot::are_sized(places, objects) {
         return false;
@@ -31,7 +31,7 @@ pub fn is_sound(places: &[u32], objects: &[u32]) -> bool
 
 // The first rule that two tables break, and the lowest record or else the lowest place that breaks it.
 pub fn first_fault(places: &[u32], objects: &[u32]) -> Fault
-    ensures { result ≡ fault (record { places = places.entry.now; objects = objects.now }) }
+    ensures { result ≡ fault (record { places = places.now; objects = objects.now }) }
 {
     if !boot::are_sized(places, objects) {
         return Fault::Lengths;

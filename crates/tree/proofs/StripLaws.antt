@@ -12,7 +12,7 @@ use Rattle.interface.proofs.History.CutLaws.{stripped_none, stripped_some}
 use Rattle.marks.specs.PlaceBits.{bit_at, RangeToo}
 use Rattle.places.proofs.CapTableLaws.{cap_table_same}
 use Rattle.descent.specs.Walks.{Marked}
-use Rattle.tree.specs.Changing.{changed_where}
+use Rattle.tree.specs.Stripping.{stripped_where}
 
 -- what is stored at a place is what stripping leaves of it
 module _ (table : List ℕ) (place mask : ℕ) {left : ℕ} {cap : Cap} (is_cap : cap ≡ cap_at table place) (is_left : left ≡ revoked cap.permissions mask) where
@@ -33,9 +33,9 @@ module _ (table : List ℕ) (place mask : ℕ) {left : ℕ} {cap : Cap} (is_cap 
 
 -- the descendants of a range are marked, and the range too if asked: stripping the marked places is its revocation
 pub left_cut : (table : List ℕ) (mask first size : ℕ) (self : Bool) {marks more after : List ℕ} → Marked (below (cap_at table) first size) marks →
-    RangeToo self marks first size more → after ≡ cap_table (changed_where (bit_at more) (stripped mask) (cap_at table)) → after ≡ cap_table (cut_caps mask first size self (cap_at table))
-unfolding changed_where cut_caps
+    RangeToo self marks first size more → after ≡ cap_table (stripped_where (bit_at more) mask (cap_at table)) → after ≡ cap_table (cut_caps mask first size self (cap_at table))
+unfolding stripped_where cut_caps
 left_cut table mask first size self {marks} {more} are_marks range e =
     e ∙
-    cap_table_same (changed_where (bit_at more) (stripped mask) (cap_at table)) (cut_caps mask first size self (cap_at table))
+    cap_table_same (stripped_where (bit_at more) mask (cap_at table)) (cut_caps mask first size self (cap_at table))
     (λ p l. rw (range.bits p, are_marks.told p l))

@@ -1,2 +1,3 @@
--- What the contracts of revocation cite.
+-- What the contracts of revocation and of repair cite.
 pub mod Changing
+pub mod Stripping

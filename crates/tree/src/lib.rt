@@ -10,7 +10,7 @@ ghost use Rattle.interface.specs.Census.{counted};
 ghost use Rattle.marks.specs.PlaceBits.{bit_at};
 ghost use Rattle.places.specs.Table.{Sized};
 ghost use Rattle.descent.specs.Walks.{Linked, InSpace};
-ghost use Rattle.tree.specs.Changing.{changed_where};
+ghost use Rattle.tree.specs.Stripping.{stripped_where};
 
 use layout::{Cap, FoundPlace, Place};
 use marks::MARK_WORDS;
@@ -32,7 +32,7 @@ pub fn cut(table: &mut [u32], mask: u32, first: Place, size: u32, self_too: bool
 // Removes a mask's permissions from the marked places.
 fn strip_marked(table: &mut [u32], marked: &[u32; MARK_WORDS], mask: u32)
     requires { Sized table.old }
-    ensures { table.new ≡ cap_table (changed_where (bit_at marked.now) (stripped mask) (cap_at table.old)) }
+    ensures { table.new ≡ cap_table (stripped_where (bit_at marked.now) mask (cap_at table.old)) }
 {
     let mut number = marks::next_marked(marked, 0);
     while number < sizes::PLACES {

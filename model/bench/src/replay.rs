@@ -19,7 +19,7 @@ pub const MODEL: &str = "--model";
 pub const MODEL_WITHOUT_TEST: &str = "--model-without-test";
 
 /// The proved program, from the root of the repository.
-const PROVED: &str = "target/bin/replay";
+const PROVED: &str = "crates/replay/out/replay";
 
 /// The journal's name in the directory where the programs run.
 const JOURNAL: &str = "journal";

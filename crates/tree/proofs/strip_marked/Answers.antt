@@ -1,6 +1,8 @@
 -- The places below the loop's number, which is that of a marked place or past the last, are as stripping leaves them, and the others as they were.
 use mathlib.Core.Path.{sym, ◌∙◌}
 use native.Mathlib.Omega.{arith}
+use Rattle.tree.specs.Changing.{changed_where}
+use Rattle.tree.specs.Stripping.{stripped_where}
 use Rattle.tree.proofs.MarkedLaws.{left_none, left_sized, left_more, left_all}
 use Rattle.tree.proofs.strip_marked.Goals as goal
 
@@ -25,5 +27,6 @@ shape_of-table c =
     left_sized _ _ _ _ c.loop-number.invariant.1 ∙ sym c.requires
 
 pub returns : goal.returns
+unfolding stripped_where changed_where
 returns c =
     left_all _ _ _ _ (omega (arith, c.loop-number.invariant.0)) c.loop-number.invariant.1
