@@ -1,7 +1,7 @@
 // Prints information pages as text: those that the arguments name, one after the other, or the one on standard input.
 #![tactic(auto)]
 
-ghost use Rattle.std.specs.Prelude.{◌≤◌, length, IfOk};
+ghost use Rattle.std.specs.Prelude.{◌≡◌, ◌≤◌, length, IfOk, OnErr};
 ghost use Rattle.hip_text.specs.PageText.{line_bytes};
 
 use command_line::{PATH_BYTES, argument, argument_count, fail};
@@ -15,7 +15,8 @@ const BUFFER_BYTES: usize = 65536;
 
 // Reads a page to its end, or as much of it as the buffer takes. Answers how many bytes that is.
 fn read_page(source: &mut impl Read, page: &mut [u8]) -> io::Result<usize>
-    ensures { IfOk result (λ filled. filled ≤ length page.new) }
+    ensures ok { IfOk result (λ filled. filled ≤ length page.new) }
+    ensures err { OnErr result (length page.new ≡ length page.old) }
 {
     let mut filled: usize = 0;
     while filled < page.len() {

@@ -110,7 +110,9 @@ fn empty_marked(table: &mut [u32], marked: &[u32; MARK_WORDS])
     }
 }
 
-// Repairs a place table, whatever the records are. Answers how many capabilities that took away.
+// Repairs a place table, whatever the records are. Answers how many capabilities that took away. Kept apart from what tests the table's length: its marks begin with a 0 that the
+// compiler does not know (`marks::blank`).
+#[inline(never)]
 pub fn mend(table: &mut [u32], objects: &[u32]) -> u32
     requires { Sized table.old × (length objects.now ≡ object_table_words) }
     ensures { Mended table.old objects.now table.new result }
