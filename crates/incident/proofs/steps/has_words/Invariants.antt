@@ -1,13 +1,7 @@
 -- The words before the loop's index are the same.
-use Prim.Native.Nat.{ℕ, ◌+◌, ◌-◌, ◌≤◌, ◌<◌}
+use Prim.Native.Nat.{ℕ, ◌-◌, ◌≤◌, ◌<◌}
 use mathlib.Core.Path.{◌≡◌}
-use mathlib.Core.Bool.{false≢true}
-use mathlib.Core.List.{List}
-use native.Mathlib.Omega.{arith}
 use lib.ListN.{length, get_or}
-use lib.Seq.{ext_get_or}
-use borrow.Author.Rules.{rules}
-use Rattle.interface.proofs.Basics.BelowLaws.{below_suc}
 use Rattle.incident.proofs.steps.has_words.Given as goal
 
 abbrev pub invariant-loop-i : goal.invariant-loop-i

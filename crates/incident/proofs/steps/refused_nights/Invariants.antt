@@ -2,7 +2,6 @@
 use Prim.Native.Nat.{◌-◌, ◌≤◌}
 use mathlib.Core.Path.{◌≡◌}
 use lib.ListN.{length}
-use borrow.Author.Rules.{rules}
 use Rattle.incident.proofs.steps.refused_nights.Given as goal
 
 abbrev pub invariant-loop-night : goal.invariant-loop-night

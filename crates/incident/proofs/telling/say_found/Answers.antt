@@ -1,7 +1,6 @@
 -- A range that is read is a proper one.
 use mathlib.Core.Path.{sym, ◌∙◌}
 use Rattle.descriptor.proofs.DescriptorLaws.{good_proper}
-use borrow.Author.Rules.{rules}
 use Rattle.incident.proofs.telling.say_found.Goals as goal
 
 pub say_range-requires : goal.say_range-requires
