@@ -1,10 +1,11 @@
 -- What the functions that repair tables cite beside the definition of repair.
 use Rattle.std.specs.Prelude.{ℕ, ◌≡◌, Bool, false, not, ◌&&◌, List, length, if◌then◌else◌}
-use Rattle.interface.specs.Places.{State, live, place_table, cap_at, view}
+use Rattle.interface.specs.Places.{State, live, nothing, place_table, cap_at, cap_table, view}
 use Rattle.interface.specs.Boot.{boot}
 use Rattle.interface.specs.Damage.{same_cap, live_place, shallow}
 use Rattle.marks.specs.PlaceBits.{mark_words, bit_at}
 use Rattle.descent.specs.Walks.{Marked}
+use Rattle.tree.specs.Changing.{changed_where}
 use Rattle.repair_rules.specs.Repair.{whole, stays, repaired_state, lost}
 
 -- whether a place keeps the rules that a chain is held against, 11 and 12
@@ -27,6 +28,12 @@ pub record ToldLost (table links : List ℕ) (place : ℕ) (answer : Bool) : Typ
 pub record LostMarked (table links marks : List ℕ) (count : ℕ) : Type 0 where
   pub marked : (objects : List ℕ) → Marked (link_keeps (view table objects)) links → Marked (λ p. not (stays (view table objects) p)) marks
   pub counted : (objects : List ℕ) → Marked (link_keeps (view table objects)) links → count ≡ lost (view table objects)
+
+-- a table whose places that go are emptied, by marks of them, with the number of live ones among them
+pub record EmptiedLost (table links after : List ℕ) (count : ℕ) : Type 0 where
+  pub marks : List ℕ
+  pub lost_marked : LostMarked table links marks count
+  pub emptied : after ≡ cap_table (changed_where (bit_at marks) (λ cap. nothing) (cap_at table))
 
 -- a place table that is repaired, and how many capabilities that took away
 pub record Mended (before objects after : List ℕ) (count : ℕ) : Type 0 where

@@ -11,7 +11,7 @@ ghost use Rattle.marks.specs.PlaceBits.{bit_at};
 ghost use Rattle.descent.specs.Walks.{Marked};
 ghost use Rattle.tree.specs.Changing.{changed_where};
 ghost use Rattle.repair_rules.specs.Repair.{repaired, repairing};
-ghost use Rattle.repair.specs.Mending.{link_keeps, Unmarked, ToldWhole, ToldLost, LostMarked, Mended, place_mends};
+ghost use Rattle.repair.specs.Mending.{link_keeps, Unmarked, ToldWhole, ToldLost, LostMarked, EmptiedLost, Mended, place_mends};
 
 use layout::{FoundPlace, Place};
 use marks::MARK_WORDS;
@@ -110,8 +110,20 @@ fn empty_marked(table: &mut [u32], marked: &[u32; MARK_WORDS])
     }
 }
 
-// Repairs a place table, whatever the records are. Answers how many capabilities that took away. Kept apart from what tests the table's length: its marks begin with a 0 that the
-// compiler does not know (`marks::blank`).
+// Empties the places that are to be emptied, by the marks of those that keep the rules 11 and 12, and counts the live ones among them. It and `mend` have one array of marks each and
+// stand apart, so that neither's marks are known to begin with 0 (`marks::blank`).
+#[inline(never)]
+fn empty_lost(table: &mut [u32], links: &[u32; MARK_WORDS]) -> u32
+    requires { Sized table.old }
+    ensures { EmptiedLost table.old links.now table.new result }
+{
+    let mut lost = marks::blank(table);
+    let count = mark_lost(table, links, &mut lost);
+    empty_marked(table, &lost);
+    count
+}
+
+// Repairs a place table, whatever the records are. Answers how many capabilities that took away.
 #[inline(never)]
 pub fn mend(table: &mut [u32], objects: &[u32]) -> u32
     requires { Sized table.old × (length objects.now ≡ object_table_words) }
@@ -119,10 +131,7 @@ pub fn mend(table: &mut [u32], objects: &[u32]) -> u32
 {
     let mut links = marks::blank(table);
     mark_links(table, objects, &mut links);
-    let mut lost = marks::blank(table);
-    let count = mark_lost(table, &links, &mut lost);
-    empty_marked(table, &lost);
-    count
+    empty_lost(table, &links)
 }
 
 // Whether a place of domain 0 is as at boot once null places are emptied.

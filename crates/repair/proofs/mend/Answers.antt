@@ -4,4 +4,4 @@ use Rattle.repair.proofs.mend.Goals as goal
 
 pub returns : goal.returns
 returns c =
-    mended _ _ _ _ _ _ c.mark_links.ensures c.mark_lost-count.ensures c.empty_marked.ensures
+    mended _ _ _ _ _ _ c.mark_links.ensures c.empty_lost.ensures.lost_marked c.empty_lost.ensures.emptied
