@@ -1,4 +1,5 @@
 -- Packing: what is joined fits, and what is packed is what was answered.
+use Rattle.std.specs.Prelude.{Option, Some, None}
 use Prim.Native.Nat.{ℕ, ◌<◌}
 use mathlib.Core.Path.{◌≡◌, sym, ap, ◌∙◌}
 use mathlib.Core.Bool.{true, false, not}
@@ -7,9 +8,9 @@ use native.Mathlib.Omega.{arith}
 use lib.Dec.{ltb}
 use borrow.Author.Tests.{ltb-true}
 use Rattle.words.specs.Sizes.{places, records}
-use Rattle.reply.specs.declared.Reply.{Reply}
+use Rattle.reply.specs.Replies.{Reply}
 use Rattle.reply.specs.declared.Fault.{Fault}
-use Rattle.reply.specs.declared.Fault.TheVariants.{NoFault, Lengths, AtRecord, AtPlace}
+use Rattle.reply.specs.declared.Fault.TheVariants.{Lengths, AtRecord, AtPlace}
 use Rattle.interface.specs.Basics.{lowest}
 use Rattle.interface.specs.Places.{State, Tables, sized, shown, tables}
 use Rattle.interface.specs.Damage.{Rule, rules_of_damage, first_fault, fault}
@@ -20,11 +21,11 @@ use Rattle.repair_rules.specs.Repair.{Repairing}
 use Rattle.abi.specs.Packing.{packed, packed_fault, booting, mending, calling, counting}
 
 -- the place that a fault names, or 0
-abbrev place_in : Fault → ℕ
-place_in NoFault = 0
-place_in Lengths = 0
-place_in (AtRecord rule number) = 0
-place_in (AtPlace rule place) = place
+abbrev place_in : Option Fault → ℕ
+place_in None = 0
+place_in (Some Lengths) = 0
+place_in (Some (AtRecord rule number)) = 0
+place_in (Some (AtPlace rule place)) = place
 
 -- it is a place
 first_inside : (s : State) (rules : List Rule) → place_in (first_fault s rules) < places
@@ -37,7 +38,7 @@ first_inside s (rule ∷ rules) =
     (λ (f : ltb r records ≡ false).
     cases (ltb p places) (λ (t : ltb p places ≡ true). rw (f, t) (ltb-true p places t)) (λ (g : ltb p places ≡ false). rw (f, g) (first_inside s rules)))
 
-pub place_inside : (tables : Tables) (rule place : ℕ) → AtPlace rule place ≡ fault tables → place < places
+pub place_inside : (tables : Tables) (rule place : ℕ) → Some (AtPlace rule place) ≡ fault tables → place < places
 unfolding fault
 place_inside tables rule place e =
     let inside : place_in (fault tables) < places =
@@ -63,5 +64,5 @@ pub mends : {repairing : Repairing} {reply : Reply} {after : Tables} {word : ℕ
 mends e is_Is_word = rw is_Is_word (ap mending e)
 
 -- and so is a fault
-pub faults : {found : Fault} (tables : Tables) (is : Fault) {word : ℕ} → found ≡ fault tables → found ≡ is → word ≡ packed_fault is → word ≡ packed_fault (fault tables)
+pub faults : {found : Option Fault} (tables : Tables) (is : Option Fault) {word : ℕ} → found ≡ fault tables → found ≡ is → word ≡ packed_fault is → word ≡ packed_fault (fault tables)
 faults tables is e same is_Is_word = is_Is_word ∙ ap packed_fault (sym same ∙ e)

@@ -1,10 +1,9 @@
 -- Replies and faults as numbers of 64 bits.
-use Rattle.std.specs.Prelude.{ℕ, ◌+◌, ◌*◌, List}
+use Rattle.std.specs.Prelude.{ℕ, ◌+◌, ◌*◌, List, Option, Some, None}
 use Rattle.words.specs.Sizes.{records}
-use Rattle.reply.specs.Replies.{status_of, answer_of}
+use Rattle.reply.specs.Replies.{status_of, answer_of, Reply}
 use Rattle.reply.specs.declared.Fault.{Fault}
-use Rattle.reply.specs.declared.Fault.TheVariants.{NoFault, Lengths, AtRecord, AtPlace}
-use Rattle.reply.specs.declared.Reply.{Reply}
+use Rattle.reply.specs.declared.Fault.TheVariants.{Lengths, AtRecord, AtPlace}
 use Rattle.interface.specs.Places.{Tables}
 use Rattle.interface.specs.Rules.{boot_reply, boot_tables}
 use Rattle.interface.specs.Census.{CensusResult}
@@ -20,11 +19,11 @@ abbrev pub packed : Reply → ℕ
 packed reply = joined (status_of reply) (answer_of reply)
 
 -- the first fault of tables: its rule, then the record, or the place counted from the number of records on; 0 where there is none
-abbrev pub packed_fault : Fault → ℕ
-packed_fault NoFault = 0
-packed_fault Lengths = joined 1 0
-packed_fault (AtRecord rule number) = joined rule number
-packed_fault (AtPlace rule place) = joined rule (records + place)
+abbrev pub packed_fault : Option Fault → ℕ
+packed_fault None = 0
+packed_fault (Some Lengths) = joined 1 0
+packed_fault (Some (AtRecord rule number)) = joined rule number
+packed_fault (Some (AtPlace rule place)) = joined rule (records + place)
 
 -- what boot, a hypercall and a census come to, with the reply as a number
 pub record Booting : Type 0 where

@@ -1,16 +1,13 @@
 -- What the functions of the information page give to other languages: answers as numbers of 64 bits, the fields of a header in order.
-use Rattle.std.specs.Prelude.{ℕ, ◌+◌, ◌*◌, List, [], ◌∷◌, ℤ, pos, length, get_or}
+use Rattle.std.specs.Prelude.{ℕ, ◌+◌, ◌*◌, List, [], ◌∷◌, ℤ, pos, length, get_or, Option, Some, None, Result, Ok, Err}
 use Rattle.endian.specs.Numbers.{little}
 use Rattle.hip_format.specs.Format.{fields, cpu_bytes}
 use Rattle.hip_format.specs.Reader.{Judgement, refused, accepted, refusal_number}
-use Rattle.hip_format.specs.Writer.{Writing, written_number}
+use Rattle.hip_format.specs.Writer.{Writing, write_refusal_number}
 use Rattle.hip_format.specs.declared.Header.{Header}
-use Rattle.hip_format.specs.declared.Written.{Written}
-use Rattle.hip_format.specs.declared.Written.TheVariants.{Done, «Type», Large, Room}
-use Rattle.hip_format.specs.declared.FoundCpu.{FoundCpu}
-use Rattle.hip_format.specs.declared.FoundCpu as Cpus
-use Rattle.hip_format.specs.declared.FoundMemory.{FoundMemory}
-use Rattle.hip_format.specs.declared.FoundMemory as Memories
+use Rattle.hip_format.specs.declared.Cpu.{Cpu}
+use Rattle.hip_format.specs.declared.Memory.{Memory}
+use Rattle.hip_format.specs.declared.WriteRefusal.{WriteRefusal}
 use Rattle.abi.specs.Packing.{joined}
 
 -- a page that was read: the refusal's number, or else the two counts, that of memory descriptors above that of CPU descriptors; and the ten fields, which a refusal leaves
@@ -24,18 +21,18 @@ page_read (accepted contents) before =
     record { word = length contents.memories * 65536 + length contents.cpus; fields = fields contents.header }
 
 -- a CPU descriptor: 1, and its four bytes as a number; 0 where there is none
-abbrev pub packed_cpu : FoundCpu → ℕ
-packed_cpu Cpus.TheVariants.Nothing = 0
-packed_cpu (Cpus.TheVariants.At cpu) = joined 1 (little (cpu_bytes cpu))
+abbrev pub packed_cpu : Option Cpu → ℕ
+packed_cpu None = 0
+packed_cpu (Some cpu) = joined 1 (little (cpu_bytes cpu))
 
 -- a memory descriptor: its type, and address, size and auxiliary; where there is none, type 0, which no descriptor has, and the numbers stay
 pub record MemoryRead : Type 0 where
   pub kind : ℤ
   pub numbers : List ℕ
 
-abbrev pub memory_read : FoundMemory → List ℕ → MemoryRead
-memory_read Memories.TheVariants.Nothing before = record { kind = pos 0; numbers = before }
-memory_read (Memories.TheVariants.At memory) before = record { kind = memory.kind; numbers = memory.address ∷ memory.size ∷ memory.auxiliary ∷ [] }
+abbrev pub memory_read : Option Memory → List ℕ → MemoryRead
+memory_read None before = record { kind = pos 0; numbers = before }
+memory_read (Some memory) before = record { kind = memory.kind; numbers = memory.address ∷ memory.size ∷ memory.auxiliary ∷ [] }
 
 -- the header of ten fields in their order
 abbrev pub header_of : List ℕ → Header
@@ -54,11 +51,9 @@ header_of list =
     }
 
 -- a page that was written: the refusal's number, or 0 and the page's length
-abbrev pub packed_written : Written → ℕ
-packed_written (Done bytes) = bytes
-packed_written «Type» = joined (written_number «Type») 0
-packed_written Large = joined (written_number Large) 0
-packed_written Room = joined (written_number Room) 0
+abbrev pub packed_written : Result ℕ WriteRefusal → ℕ
+packed_written (Ok bytes) = bytes
+packed_written (Err refusal) = joined (write_refusal_number refusal) 0
 
 pub record PageWritten : Type 0 where
   pub word : ℕ

@@ -27,7 +27,7 @@ fn join(high: u32, low: u32) -> u64
 fn pack(reply: Reply) -> u64
     ensures { result ≡ packed reply }
 {
-    join(reply.status(), reply.answer())
+    join(reply::status(reply), reply::answer(reply))
 }
 
 // Fills two tables as they are at boot; tables of other lengths are refused and stay.
@@ -82,9 +82,10 @@ pub extern "C" fn rudozhev_census(
 pub extern "C" fn rudozhev_damage(places: &[u32], objects: &[u32]) -> u64
     ensures { result ≡ packed_fault (fault (tables places.now objects.now)) }
 {
-    let fault = soundness::first_fault(places, objects);
+    let Some(fault) = soundness::first_fault(places, objects) else {
+        return 0;
+    };
     match fault {
-        Fault::NoFault => 0,
         Fault::Lengths => join(1, 0),
         Fault::AtRecord(rule, number) => join(rule, number),
         Fault::AtPlace(rule, place) => join(rule, sizes::RECORDS + place),

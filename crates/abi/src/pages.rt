@@ -5,7 +5,7 @@ ghost use Rattle.hip_format.specs.Writer.{given, writing};
 ghost use Rattle.abi.specs.PagePacking.{page_read, packed_cpu, memory_read, header_of, packed_written, page_written};
 
 use crate::join;
-use hip_format::{FoundCpu, FoundMemory, Header, Reading, Written};
+use hip_format::{Header, WriteRefusal};
 
 // Reads an information page. The high 32 bits are the refusal's number, 0 where the page is accepted; the low ones then the number of memory descriptors times 65,536 plus that
 // of CPU descriptors, and the ten fields are those of the header.
@@ -13,12 +13,10 @@ use hip_format::{FoundCpu, FoundMemory, Header, Reading, Written};
 pub extern "C" fn rudozhev_hip_read(page: &[u8], fields: &mut [u32; 10]) -> u64
     ensures { record { word = result; fields = fields.new } ≡ page_read (judged page.now) fields.old }
 {
-    let found = hip_reader::read(page);
-    match found {
-        Reading::Refused(refusal) => join(refusal.number(), 0),
-        Reading::Accepted(summary) => {
-            let header = summary.header;
-            *fields = header.fields();
+    match hip_reader::read(page) {
+        Err(refusal) => join(u32::from(refusal), 0),
+        Ok(summary) => {
+            *fields = summary.header.fields();
             let memories = summary.memories as u64;
             let cpus = summary.cpus as u64;
             memories * 65536 + cpus
@@ -31,12 +29,11 @@ pub extern "C" fn rudozhev_hip_read(page: &[u8], fields: &mut [u32; 10]) -> u64
 pub extern "C" fn rudozhev_hip_cpu(page: &[u8], index: u32) -> u64
     ensures { result ≡ packed_cpu (cpu_of (judged page.now) index) }
 {
-    let found = hip_reader::cpu(page, index as usize);
-    match found {
-        FoundCpu::Nothing => 0,
-        FoundCpu::At(cpu) => join(
+    match hip_reader::cpu(page, index as usize) {
+        None => 0,
+        Some(cpu) => join(
             1,
-            endian::of_four(cpu.flags, cpu.thread, cpu.core, cpu.package),
+            u32::from_le_bytes([cpu.flags, cpu.thread, cpu.core, cpu.package]),
         ),
     }
 }
@@ -47,10 +44,9 @@ pub extern "C" fn rudozhev_hip_cpu(page: &[u8], index: u32) -> u64
 pub extern "C" fn rudozhev_hip_memory(page: &[u8], index: u32, numbers: &mut [u64; 3]) -> i32
     ensures { record { kind = result; numbers = numbers.new } ≡ memory_read (memory_of (judged page.now) index) numbers.old }
 {
-    let found = hip_reader::memory(page, index as usize);
-    match found {
-        FoundMemory::Nothing => 0,
-        FoundMemory::At(memory) => {
+    match hip_reader::memory(page, index as usize) {
+        None => 0,
+        Some(memory) => {
             *numbers = [memory.address, memory.size, memory.auxiliary as u64];
             memory.kind
         }
@@ -76,14 +72,12 @@ fn header_of(fields: &[u32; 10]) -> Header
 }
 
 // A refusal's number in the high 32 bits, or the length of what was written.
-fn pack_written(done: Written) -> u64
+fn pack_written(done: Result<usize, WriteRefusal>) -> u64
     ensures { result ≡ packed_written done }
 {
     match done {
-        Written::Done(bytes) => bytes as u64,
-        Written::Type => join(done.number(), 0),
-        Written::Large => join(done.number(), 0),
-        Written::Room => join(done.number(), 0),
+        Ok(bytes) => bytes as u64,
+        Err(refusal) => join(u32::from(refusal), 0),
     }
 }
 

@@ -43,12 +43,20 @@ module _ (block : List ℕ) (fits : Bool) (is_fits : fits ≡ payload_fits (word
     untyped_ends = omega (arith, counts_fit (word block 0) (sym is_fits ∙ not-false fits f))
 
 -- one more untyped word is copied
-pub copied_more : {target : List ℕ} (target₀ source : List ℕ) (i : ℕ) → head_words + i < length source → head_words + i < length target₀ →
+copied_next : {target : List ℕ} (target₀ source : List ℕ) (i : ℕ) → head_words + i < length source → head_words + i < length target₀ →
     target ≡ paste target₀ head_words (drop head_words source) i →
     set target (head_words + i) (word source (head_words + i)) ≡ paste target₀ head_words (drop head_words source) (i + 1)
-copied_more target₀ source i s t e =
+copied_next target₀ source i s t e =
     let more : i < length (drop head_words source) = simp length-drop (omega arith) in
     rw (e, sym (get_or-drop head_words source i 0), add-one i) (paste-suc target₀ head_words (drop head_words source) i 0 t more)
+
+pub copied_more : {target : List ℕ} (target₀ source : List ℕ) (at : ℕ) → head_words ≤ at → at < length source → at < length target₀ →
+    target ≡ paste target₀ head_words (drop head_words source) (at - head_words) →
+    set target at (word source at) ≡ paste target₀ head_words (drop head_words source) (at + 1 - head_words)
+copied_more {target} target₀ source at h s t e =
+    let here : head_words + (at - head_words) ≡ at = omega arith in
+    let next : at - head_words + 1 ≡ at + 1 - head_words = omega arith in
+    rw (here, next) at (copied_next target₀ source (at - head_words) (omega arith) (omega arith) e)
 
 -- word 0 and the untyped words as the code copies them
 pub is_copied : {block : List ℕ} (source target : List ℕ) (untyped : ℕ) → untyped ≡ untyped_count (word source 0) →

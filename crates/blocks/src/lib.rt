@@ -49,18 +49,6 @@ pub fn untyped(block: &[u32]) -> &[u32]
     &block[HEAD_WORDS..end]
 }
 
-// Copies as many words of the payload as are untyped.
-fn copy_words(source: &[u32], target: &mut [u32], untyped: usize)
-    requires { (head_words + untyped ≤ length source.now) × (head_words + untyped ≤ length target.old) }
-    ensures { target.new ≡ paste target.old head_words (drop head_words source.now) untyped }
-{
-    let mut i: usize = 0;
-    while i < untyped {
-        target[HEAD_WORDS + i] = source[HEAD_WORDS + i];
-        i += 1;
-    }
-}
-
 // Copies word 0 and the untyped words.
 pub fn copy_untyped(source: &[u32], target: &mut [u32])
     requires { Blocks source.now target.old }
@@ -68,5 +56,9 @@ pub fn copy_untyped(source: &[u32], target: &mut [u32])
 {
     let word0 = source[0];
     target[0] = word0;
-    copy_words(source, target, untyped_count(word0) as usize);
+    let end = HEAD_WORDS + (untyped_count(word0) as usize);
+    // The archive for other languages needs no outside symbol, and `copy_from_slice` is `memmove` there.
+    for i in HEAD_WORDS..end {
+        target[i] = source[i];
+    }
 }

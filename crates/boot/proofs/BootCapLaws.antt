@@ -1,4 +1,5 @@
 -- What each record and each place holds at boot: what the definition gives on each way out of the function that makes it.
+use Rattle.std.specs.Prelude.{Option, Some, None, if◌then◌else◌}
 use Prim.Native.Nat.{ℕ, ◌+◌, ◌-◌, ◌≤◌, ◌<◌}
 use mathlib.Core.Path.{◌≡◌, ap, ◌∙◌}
 use mathlib.Core.Bool.{Bool, true, false, ◌&&◌}
@@ -8,11 +9,8 @@ use borrow.Author.Tests.{lt-ltb, le-ltb, eq-eqb, ne_eqb, leb-true, ltb-true}
 use native.Mathlib.Omega.{arith}
 use Rattle.words.specs.Sizes.{memory, object, records, place_of, domain_of, space_of, selector_of}
 use Rattle.layout.specs.declared.ObjectNumber.{ObjectNumber}
-use Rattle.layout.specs.declared.FoundObject.{FoundObject}
-use Rattle.layout.specs.declared.FoundObject.TheVariants.{Numbered, Beyond}
 use Rattle.layout.specs.Numbers.{link_of, numbered}
 use Rattle.layout.proofs.NumberLaws.{numbered_so}
-use Rattle.std.specs.Prelude.{if◌then◌else◌}
 use Rattle.interface.specs.Basics.{word}
 use Rattle.interface.specs.Places.{Cap, nothing, parentless, free, PD, EC, SC, SM, kind_word, greatest}
 use Rattle.interface.specs.Boot.{hypervisor, root, cpus, root_pd, root_ec, root_sc, root_objects, exc, root_priority, root_quantum, no_ec, information_page, information_permissions, utcb_page, utcb_permissions, boot_record, boot_object, hypervisor_cap, lent_to_root, root_memory, root_cap, boot_cap}
@@ -68,12 +66,12 @@ pub selector_from : (selector first past : ℕ) → (leb first selector && ltb s
 selector_from selector first past t = leb-true first selector (and_left (leb first selector) (ltb selector past) t)
 
 -- the objects of the hypervisor and of the root, by a selector's number as the code reads it
-module _ (selector number : ℕ) (found : FoundObject) (is_number : number ≡ selector) where
+module _ (selector number : ℕ) (found : (Option ObjectNumber)) (is_number : number ≡ selector) where
   pub hypervisor_holds : number < root_pd → found ≡ numbered number → found ≡ hypervisor_object selector
   unfolding hypervisor_object
   hypervisor_holds l e = rw (← is_number, lt-ltb number root_pd l) e
 
-  pub hypervisor_holds_none : root_pd ≤ number → found ≡ Beyond → found ≡ hypervisor_object selector
+  pub hypervisor_holds_none : root_pd ≤ number → found ≡ None → found ≡ hypervisor_object selector
   unfolding hypervisor_object
   hypervisor_holds_none l e = rw (← is_number, le-ltb number root_pd l) e
 
@@ -85,16 +83,16 @@ module _ (selector number : ℕ) (found : FoundObject) (is_number : number ≡ s
   unfolding root_object
   root_holds t e = rw (← is_number, t) e
 
-  pub root_holds_none : holds_root ≡ false → found ≡ Beyond → found ≡ root_object selector
+  pub root_holds_none : holds_root ≡ false → found ≡ None → found ≡ root_object selector
   unfolding root_object
   root_holds_none f e = rw (← is_number, f) e
 
 -- what a place holds by its object
-pub held_object : (object : ObjectNumber) (found : FoundObject) (cap : Cap) → found ≡ Numbered object → cap ≡ boot_object object.0 → cap ≡ held_cap found
+pub held_object : (object : ObjectNumber) (found : (Option ObjectNumber)) (cap : Cap) → found ≡ Some object → cap ≡ boot_object object.0 → cap ≡ held_cap found
 unfolding held_cap
 held_object object found cap is_found e = rw is_found e
 
-pub held_none : (found : FoundObject) (cap : Cap) → found ≡ Beyond → cap ≡ nothing → cap ≡ held_cap found
+pub held_none : (found : (Option ObjectNumber)) (cap : Cap) → found ≡ None → cap ≡ nothing → cap ≡ held_cap found
 unfolding held_cap
 held_none found cap is_found e = rw is_found e
 
@@ -109,7 +107,7 @@ module _ (space selector : ℕ) (cap : Cap) where
   unfolding hypervisor_cap
   hypervisor_resource number most is_number l is_most e = rw (lt-ltb space object l) (rw (is_most, is_number) at e)
 
-  pub hypervisor_held : (found : FoundObject) → object ≤ space → found ≡ hypervisor_object selector → cap ≡ held_cap found → cap ≡ hypervisor_cap space selector
+  pub hypervisor_held : (found : (Option ObjectNumber)) → object ≤ space → found ≡ hypervisor_object selector → cap ≡ held_cap found → cap ≡ hypervisor_cap space selector
   unfolding hypervisor_cap hypervisor_object held_cap
   hypervisor_held found g is_found e =
       rw (le-ltb space object g)
@@ -118,7 +116,7 @@ module _ (space selector : ℕ) (cap : Cap) where
       let small : selector < records = omega (arith, ltb-true selector root_pd t) in rw t (rw (is_found, t, held_numbered selector small) at e))
       (λ (f : ltb selector root_pd ≡ false). rw f (rw (is_found, f) at e)))
 
-  pub root_held : (found : FoundObject) → space ≡ object → found ≡ root_object selector → cap ≡ held_cap found → cap ≡ root_cap space selector
+  pub root_held : (found : (Option ObjectNumber)) → space ≡ object → found ≡ root_object selector → cap ≡ held_cap found → cap ≡ root_cap space selector
   unfolding root_cap root_object held_cap
   root_held found is_object is_found e =
       let test = leb exc selector && ltb selector (exc + root_objects) in

@@ -1,4 +1,5 @@
 -- Filling the tables: what is filled below a number, one place or record more, the tables that are filled whole, and boot's ways out.
+use Rattle.std.specs.Prelude.{Ok, Err}
 use Prim.Native.Nat.{ℕ, ◌+◌, ◌≤◌, ◌<◌}
 use mathlib.Core.Path.{◌≡◌, sym, ap, ◌∙◌}
 use mathlib.Core.Bool.{Bool, true, false, not}
@@ -7,7 +8,7 @@ use native.Mathlib.Omega.{arith}
 use lib.Dec.{eqb}
 use borrow.Author.Tests.{eqb-true, eqb-false, not-true, not-false}
 use Rattle.words.specs.Sizes.{places, records}
-use Rattle.reply.specs.declared.Reply.TheVariants.{Success, Damaged}
+use Rattle.reply.specs.declared.Refusal.TheVariants.{Damaged}
 use Rattle.interface.specs.Basics.{word, put}
 use Rattle.interface.specs.Places.{Cap, sized, cap_at, object_at, cap_table, record_table}
 use Rattle.interface.specs.Boot.{boot_record, boot_cap}
@@ -96,11 +97,11 @@ module _ (places_before objects_before : List ℕ) (right : Bool) (is_sized : ri
   pub objects_sized : not right ≡ false → SizedObjects objects_before
   objects_sized f = objects_long (record { places = places_before; objects = objects_before }) (sym is_sized ∙ not-false right f)
 
-  pub booted_not : not right ≡ true → Booted places_before objects_before places_before objects_before Damaged
+  pub booted_not : not right ≡ true → Booted places_before objects_before places_before objects_before (Err Damaged)
   unfolding boot_reply boot_tables
   booted_not t = let f = sym is_sized ∙ not-true right t in record { replies = rw f; leaves = rw f }
 
   pub booted : {places_after_lem objects_after_lem : List ℕ} → not right ≡ false → places_after_lem ≡ cap_table boot_cap →
-      objects_after_lem ≡ record_table (λ r. word (boot_record r)) → Booted places_before objects_before places_after_lem objects_after_lem (Success 0)
+      objects_after_lem ≡ record_table (λ r. word (boot_record r)) → Booted places_before objects_before places_after_lem objects_after_lem (Ok 0)
   unfolding boot_reply boot_tables
   booted f p o = let t = sym is_sized ∙ not-false right f in record { replies = rw t; leaves = rw (t, p, o) }

@@ -11,9 +11,9 @@ ghost use Rattle.places.specs.Table.{Sized as SizedPlaces};
 ghost use Rattle.objects.specs.Records.{Sized as SizedObjects, words_of};
 ghost use Rattle.boot.specs.Held.{hypervisor_object, root_object, held_cap};
 
-use layout::{Cap, FoundObject, ObjectNumber, Place, Selector};
+use layout::{Cap, ObjectNumber, Place, Selector};
 use objects::Record;
-use reply::Reply;
+use reply::{Refusal, Reply};
 use words::sizes;
 
 // Each CPU has an idle SC and each interrupt a semaphore; the records of the root's PD, EC and SC follow them.
@@ -44,7 +44,7 @@ pub const ROOT_PRIORITY: u32 = 1;
 
 pub const ROOT_QUANTUM: u32 = 10000;
 
-// The EC word of an idle SC: no EC's number.
+// The EC word of an idle SC: no EC's number, since a word of a table has no `Option`.
 pub const NO_EC: u32 = sizes::RECORDS;
 
 // The words of a record at boot.
@@ -89,35 +89,35 @@ fn boot_object(object: ObjectNumber) -> Cap
 }
 
 // What a place holds at boot by its object, if it has one.
-fn held(found: FoundObject) -> Cap
+fn held(found: Option<ObjectNumber>) -> Cap
     ensures { result ≡ held_cap found }
 {
     match found {
-        FoundObject::Numbered(object) => boot_object(object),
-        FoundObject::Beyond => null_cap(),
+        Some(object) => boot_object(object),
+        None => null_cap(),
     }
 }
 
 // The object that domain 0 holds at an object selector at boot, if it holds one: selectors and objects are numbered alike there.
-fn hypervisor_object(selector: Selector) -> FoundObject
+fn hypervisor_object(selector: Selector) -> Option<ObjectNumber>
     ensures { result ≡ hypervisor_object selector.0 }
 {
     let number = selector.number();
     if number < ROOT_PD {
         return ObjectNumber::found(number);
     }
-    FoundObject::Beyond
+    None
 }
 
 // The object that the root holds at an object selector at boot, if it holds one: its PD, EC and SC, from EXC on.
-fn root_object(selector: Selector) -> FoundObject
+fn root_object(selector: Selector) -> Option<ObjectNumber>
     ensures { result ≡ root_object selector.0 }
 {
     let number = selector.number();
     if (EXC <= number) & (number < EXC + ROOT_OBJECTS) {
         return ObjectNumber::found(ROOT_PD + (number - EXC));
     }
-    FoundObject::Beyond
+    None
 }
 
 // What domain 0 holds at boot: the page or the port of each selector's number, and its objects.
@@ -188,7 +188,7 @@ pub fn boot_cap(place: Place) -> Cap
     null_cap()
 }
 
-// Fills the place table.
+// Fills the place table. Each table has a loop of its own: they differ in the type of a number and in what is stored.
 fn fill_places(table: &mut [u32])
     requires { SizedPlaces table.old }
     ensures { table.new ≡ cap_table boot_cap }
@@ -212,7 +212,7 @@ fn fill_objects(table: &mut [u32])
 
 // Whether both tables have their lengths.
 pub fn are_sized(places: &[u32], objects: &[u32]) -> bool
-    ensures { result ≡ sized (record { places = places.entry.now; objects = objects.now }) }
+    ensures { result ≡ sized (record { places = places.now; objects = objects.now }) }
 {
     (places.len() == sizes::PLACE_TABLE_WORDS) & (objects.len() == sizes::OBJECT_TABLE_WORDS)
 }
@@ -222,9 +222,9 @@ pub fn boot(places: &mut [u32], objects: &mut [u32]) -> Reply
     ensures { Booted places.old objects.old places.new objects.new result }
 {
     if !are_sized(places, objects) {
-        return Reply::Damaged;
+        return Err(Refusal::Damaged);
     }
     fill_places(places);
     fill_objects(objects);
-    Reply::Success(0)
+    Ok(0)
 }

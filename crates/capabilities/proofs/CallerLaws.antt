@@ -1,10 +1,12 @@
 -- What a call's function knows of its tables and caller, and what makes it run its rule: a refusal leaves the tables, a grant leaves those of its steps.
+use Rattle.std.specs.Prelude.{Err}
 use Prim.Native.Nat.{ℕ, ◌<◌}
 use mathlib.Core.Path.{◌≡◌}
 use mathlib.Core.Bool.{true}
 use mathlib.Core.List.{List}
+use Rattle.reply.specs.declared.Refusal.{Refusal}
 use Rattle.words.specs.Sizes.{domains, records}
-use Rattle.reply.specs.declared.Reply.{Reply}
+use Rattle.reply.specs.Replies.{Reply}
 use Rattle.interface.specs.Places.{Cap, State, domain_word, object_place, permitted, sized, cap_at, object_at, place_table, object_table, tables, view}
 use Rattle.interface.specs.Effects.{run}
 use Rattle.interface.specs.Verdicts.{Call, Verdict, refuse, reply_of, effects_of}
@@ -55,8 +57,8 @@ module _ {places objects : List ℕ} {caller : ℕ} (called : Called places obje
 
   module _ {verdict : State → Call → Verdict} {c : Call} where
     -- a refusal with the tables as they were runs the rule that refuses so
-    pub refused_runs : {reply : Reply} → verdict (view places objects) c ≡ refuse reply →
-        Runs verdict c (tables places objects) (tables places objects) reply
+    pub refused_runs : {refusal : Refusal} → verdict (view places objects) c ≡ refuse refusal →
+        Runs verdict c (tables places objects) (tables places objects) (Err refusal)
     unfolding run
     refused_runs e = record { replies = rw e; leaves = rw (e, places_kept, objects_kept) }
 

@@ -12,7 +12,7 @@ ghost use Rattle.capabilities.specs.Callers.{Called};
 use layout::{ObjectNumber, Place, Selector};
 use words::{permissions, sizes};
 
-// The domain of a call's caller.
+// The domain of a call's caller. The place table is named by what is required alone. The two tables stay two parameters: C lends them apart, and a call may change one of them.
 pub fn domain(places: &[u32], objects: &[u32], caller: ObjectNumber) -> u32
     requires { Called places.now objects.now caller.0 }
     ensures { (result ≡ object_at objects.now caller.0 domain_word) × (result < domains) }

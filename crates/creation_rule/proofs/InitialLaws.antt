@@ -11,6 +11,7 @@ use mir.Val.{Fits}
 use borrow.Author.Tests.{eqb-true, ltb-true}
 use Rattle.words.specs.Sizes.{domains, object, place_of, records}
 use Rattle.words.specs.Sizes.{places as placeCount}
+use Rattle.descriptor.specs.declared.Range.{Range}
 use Rattle.descriptor.specs.declared.Reading.{Reading}
 use Rattle.descriptor.specs.declared.Reading.TheVariants.{Null, Malformed, Good}
 use Rattle.descriptor.specs.Descriptors.{reading}
@@ -19,7 +20,7 @@ use Rattle.interface.specs.Basics.{listed}
 use Rattle.interface.specs.Places.{PD, kind_word, cap_at, object_at, cap_table}
 use Rattle.interface.specs.Damage.{pds_below}
 use Rattle.interface.specs.Effects.{given_caps, act, run}
-use Rattle.interface.specs.Creations.{initial_good, hand_on}
+use Rattle.interface.specs.Creations.{initial_good, hand_on, initial_gives}
 use Rattle.interface.proofs.Basics.LoopLaws.{count_below_small}
 use Rattle.interface.proofs.Tables.TableLaws.{cap_at_end}
 use Rattle.interface.proofs.Tables.TurnLaws.{run_append}
@@ -32,6 +33,12 @@ use Rattle.creation_rule.specs.CreationRule.{Hands, Handed}
 pub hands_none : (table : List ℕ) → Hands [] table table
 unfolding run
 hands_none table = record { turns = λ objects. refl }
+
+-- an initial descriptor that is no range hands on nothing
+pub hands_nothing : (from to : ℕ) (initial : Reading) (table : List ℕ) → ((range : Range) → initial ≡ Good range → ⊥) → Hands (initial_gives from to initial) table table
+hands_nothing from to Null table n = hands_none table
+hands_nothing from to Malformed table n = hands_none table
+hands_nothing from to (Good range) table n = absurd (n range refl)
 
 -- one more place is handed on by a delegation
 pub hands_more : (from to base mask offset : ℕ) {before table after : List ℕ} {destination source selector masked : ℕ} {filled : Bool} → Sized table →

@@ -1,10 +1,11 @@
 -- What the functions of the rule that the creations share promise: what the checks come to, delegations from one table to another, and that the rule is run.
-use Rattle.std.specs.Prelude.{ℕ, ◌<◌, ◌≡◌, true, List, [], ◌∷◌, ◌++◌}
+use Rattle.std.specs.Prelude.{Result, Ok, Err, ℕ, ◌<◌, ◌≡◌, true, List, [], ◌∷◌, ◌++◌}
+use Rattle.reply.specs.declared.Refusal.{Refusal}
 use Rattle.words.specs.Sizes.{domains, object, records}
 use Rattle.layout.specs.declared.ObjectNumber.{ObjectNumber}
 use Rattle.descriptor.specs.declared.Reading.{Reading}
 use Rattle.descriptor.specs.declared.Reading.TheVariants.{Null, Malformed, Good}
-use Rattle.reply.specs.declared.Reply.{Reply}
+use Rattle.reply.specs.Replies.{Reply}
 use Rattle.descriptor.specs.Descriptors.{Proper}
 use Rattle.interface.specs.Basics.{word}
 use Rattle.interface.specs.Places.{State, Tables, object_place, cap_at, shown}
@@ -15,8 +16,6 @@ use Rattle.interface.specs.Creations.{Creation as Rule}
 use Rattle.interface.specs.Rules.{Runs}
 use Rattle.objects.specs.Records.{words_of}
 use Rattle.creation_rule.specs.declared.Creation.{Creation}
-use Rattle.creation_rule.specs.declared.Checked.{Checked}
-use Rattle.creation_rule.specs.declared.Checked.TheVariants.{Takes, Refused}
 
 -- what a creation delegates, from the caller's domain to the one that its object's words name
 abbrev pub gives : ℕ → Creation → List Effect
@@ -46,12 +45,12 @@ pub record Says (s : State) (domain selector pd : ℕ) (new : Creation) (verdict
   pub says : (c : Call) (words : List ℕ) → Asks s domain selector pd c → creation s c (rule_of domain new words) ≡ verdict words
 
 -- what the checks of a creation come to: a record for the object where it passes them, and otherwise the refusal of its rule
-pub data Decides (s : State) (domain selector pd : ℕ) (new : Creation) : Checked → Type 0 where
+pub data Decides (s : State) (domain selector pd : ℕ) (new : Creation) : Result ObjectNumber Refusal → Type 0 where
   passed : (number : ObjectNumber) → number.0 < records → new.parameters_good ≡ true → new.domain_left ≡ true →
       Says s domain selector pd new
       (λ words. grant 0 (make number.0 words ∷ gives domain new ++ (hold (object_place domain selector) number.0 ∷ []))) →
-      Decides s domain selector pd new (Takes number)
-  failed : (reply : Reply) → Says s domain selector pd new (λ words. refuse reply) → Decides s domain selector pd new (Refused reply)
+      Decides s domain selector pd new (Ok number)
+  failed : (refusal : Refusal) → Says s domain selector pd new (λ words. refuse refusal) → Decides s domain selector pd new (Err refusal)
 
 -- delegations that turn one place table into another, whatever the records
 pub record Hands (delegations : List Effect) (before after : List ℕ) : Type 0 where

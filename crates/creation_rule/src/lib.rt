@@ -3,6 +3,7 @@
 
 ghost use Rattle.std.specs.Prelude.{true, ◌≡◌, ◌^◌, ◌<◌, ◌≤◌};
 ghost use Rattle.words.specs.Sizes.{domains, object};
+ghost use Rattle.descriptor.specs.declared.Reading.TheVariants.{Null};
 ghost use Rattle.descriptor.specs.Descriptors.{Proper};
 ghost use Rattle.interface.specs.Places.{SM, tables, view};
 ghost use Rattle.interface.specs.Creations.{hand_on, initial_good, initial_gives};
@@ -11,12 +12,13 @@ ghost use Rattle.objects.specs.Records.{Sized as SizedObjects};
 ghost use Rattle.creation_rule.specs.CreationRule.{Decides, Creates, Hands, Handed};
 
 use descriptor::{Range, Reading};
-use layout::{FoundObject, ObjectNumber, Place};
+use layout::{ObjectNumber, Place};
 use objects::Record;
-use reply::Reply;
+use reply::{Refusal, Reply};
 use words::{ranges, sizes};
 
 // What one creation has of its own: the new object's words, what its own tests came to, and the initial range of a new PD.
+// Four flags and no Result: the definition `creation` has these flags, and so the order of the refusals stands in `check` alone.
 #[derive(Clone, Copy)]
 pub struct Creation {
     pub object: Record,
@@ -27,11 +29,20 @@ pub struct Creation {
     pub initial: Reading,
 }
 
-// What the checks of a creation come to: the record that the new object takes, or a refusal.
-#[derive(Clone, Copy)]
-enum Checked {
-    Takes(ObjectNumber),
-    Refused(Reply),
+impl Creation {
+    // A creation that has no tests of its own and no initial range.
+    pub fn of(object: Record) -> Creation
+        ensures { result ≡ record { object = object; bindable = true; cpu_good = true; parameters_good = true; domain_left = true; initial = Null } }
+    {
+        Creation {
+            object,
+            bindable: true,
+            cpu_good: true,
+            parameters_good: true,
+            domain_left: true,
+            initial: Reading::Null,
+        }
+    }
 }
 
 // The checks that all creations have, in their order.
@@ -42,12 +53,12 @@ fn check(
     selector: u32,
     pd: u32,
     new: Creation,
-) -> Checked
+) -> Result<ObjectNumber, Refusal>
     requires { SizedPlaces places.now × SizedObjects objects.now × (domain < domains) × (0 < new.object.0) × (new.object.0 ≤ SM) }
     ensures { Decides (view places.now objects.now) domain selector pd new result }
 {
     if places::is_live(places::load(places, capabilities::object_place(domain, selector))) {
-        return Checked::Refused(Reply::BadCap);
+        return Err(Refusal::BadCap);
     }
     if !capabilities::is_permitted(
         places,
@@ -56,24 +67,22 @@ fn check(
         objects::PD,
         new.object.0 - 1,
     ) {
-        return Checked::Refused(Reply::BadCap);
+        return Err(Refusal::BadCap);
     }
     if !new.bindable {
-        return Checked::Refused(Reply::BadCap);
+        return Err(Refusal::BadCap);
     }
     if !new.cpu_good {
-        return Checked::Refused(Reply::BadCpu);
+        return Err(Refusal::BadCpu);
     }
     if !new.parameters_good {
-        return Checked::Refused(Reply::BadPar);
+        return Err(Refusal::BadPar);
     }
-    let FoundObject::Numbered(number) = objects::free_record(objects) else {
-        return Checked::Refused(Reply::NoRoom);
-    };
+    let number = objects::free_record(objects).ok_or(Refusal::NoRoom)?;
     if !new.domain_left {
-        return Checked::Refused(Reply::NoRoom);
+        return Err(Refusal::NoRoom);
     }
-    Checked::Takes(number)
+    Ok(number)
 }
 
 // Delegates each place of a range of object selectors to the same selector of another domain.
@@ -81,14 +90,11 @@ fn hand_on(table: &mut [u32], from: u32, to: u32, range: Range)
     requires { SizedPlaces table.old × (from < domains) × (to < domains) × Proper range × (range.space ≡ object) }
     ensures { Hands (hand_on from to range.base (2 ^ range.order) range.mask) table.old table.new }
 {
-    let size = ranges::size(range.order());
-    let mut offset = 0u32;
-    while offset < size {
+    for offset in 0..ranges::size(range.order()) {
         let selector = range.at(offset);
         let destination = Place::of(to, sizes::OBJECT, selector);
         let source = Place::of(from, sizes::OBJECT, selector);
         places::give(table, destination, source, range.mask());
-        offset += 1;
     }
 }
 
@@ -108,10 +114,8 @@ fn give_initial(table: &mut [u32], from: u32, to: u32, initial: Reading)
     requires { SizedPlaces table.old × (from < domains) × Handed to initial }
     ensures { Hands (initial_gives from to initial) table.old table.new }
 {
-    match initial {
-        Reading::Null => {}
-        Reading::Malformed => {}
-        Reading::Good(range) => hand_on(table, from, to, range),
+    if let Reading::Good(range) = initial {
+        hand_on(table, from, to, range);
     }
 }
 
@@ -129,19 +133,15 @@ pub fn create(
         (new.parameters_good ≡ true → new.domain_left ≡ true → Handed new.object.1 new.initial) }
     ensures { Creates domain selector pd new (tables places.old objects.old) (tables places.new objects.new) result }
 {
-    match check(places, objects, domain, selector, pd, new) {
-        Checked::Refused(reply) => reply,
-        Checked::Takes(number) => {
-            let object = new.object;
-            let initial = new.initial;
-            objects::make(objects, number, object);
-            give_initial(places, domain, object.1, initial);
-            places::store(
-                places,
-                capabilities::object_place(domain, selector),
-                places::without_parent(number.number(), objects::greatest_of(object.0)),
-            );
-            Reply::Success(0)
-        }
-    }
+    let number = check(places, objects, domain, selector, pd, new)?;
+    let object = new.object;
+    let initial = new.initial;
+    objects::make(objects, number, object);
+    give_initial(places, domain, object.1, initial);
+    places::store(
+        places,
+        capabilities::object_place(domain, selector),
+        places::without_parent(number.number(), objects::greatest_of(object.0)),
+    );
+    Ok(0)
 }

@@ -9,7 +9,7 @@ use lib.ListN.{replicate}
 use Rattle.words.specs.Sizes.{domains, object, selectors, records}
 use Rattle.descriptor.specs.declared.Reading.{Reading}
 use Rattle.descriptor.specs.declared.Reading.TheVariants.{Null}
-use Rattle.reply.specs.declared.Reply.{Reply}
+use Rattle.reply.specs.Replies.{Reply}
 use Rattle.descriptor.specs.Descriptors.{reading}
 use Rattle.descriptor.specs.Descriptors.{kept as keptWord}
 use Rattle.descriptor.proofs.DescriptorLaws.{base_high, reading_kept}

@@ -12,7 +12,7 @@ ghost use Rattle.objects.specs.Records.{Sized as SizedObjects};
 ghost use Rattle.capabilities.specs.Callers.{Called};
 
 use creation_rule::Creation;
-use descriptor::{Descriptor, Reading};
+use descriptor::Descriptor;
 use layout::ObjectNumber;
 use objects::Record;
 use reply::Reply;
@@ -24,6 +24,7 @@ const BIND_SC: u32 = 1;
 const BIND_PT: u32 = 2;
 
 // The EC that an SC or a PT is bound to, and whether its capability permits that.
+// A number with a flag and no Option: the definition names the EC in the object's words before the rule has tested the capability.
 #[derive(Clone, Copy)]
 struct Binding {
     ec: u32,
@@ -60,12 +61,10 @@ pub fn create_pd(
     let range = Descriptor::from_word(initial).read();
     let next = objects::pds_below(objects, sizes::RECORDS) + 1;
     let new = Creation {
-        object: Record(objects::PD, next, 0, 0, 0),
-        bindable: true,
-        cpu_good: true,
         parameters_good: creation_rule::is_initial(range),
         domain_left: next < sizes::DOMAINS,
         initial: range,
+        ..Creation::of(Record(objects::PD, next, 0, 0, 0))
     };
     creation_rule::create(places, objects, domain, selector, pd, new)
 }
@@ -90,12 +89,8 @@ pub fn create_ec(
     let home = objects::load_named(objects, named, objects::DOMAIN);
     let wrapped = event_base % sizes::OBJECT_SELECTORS;
     let new = Creation {
-        object: Record(objects::EC, home, cpu, wrapped, 0),
-        bindable: true,
         cpu_good: cpu < objects::CPUS,
-        parameters_good: true,
-        domain_left: true,
-        initial: Reading::Null,
+        ..Creation::of(Record(objects::EC, home, cpu, wrapped, 0))
     };
     creation_rule::create(places, objects, domain, selector, pd, new)
 }
@@ -119,12 +114,9 @@ pub fn create_sc(
     let priority = qpd % 256;
     let quantum = qpd >> 12;
     let new = Creation {
-        object: Record(objects::SC, bound.ec, priority, quantum, 0),
         bindable: bound.permitted,
-        cpu_good: true,
         parameters_good: (priority != 0) & (quantum != 0),
-        domain_left: true,
-        initial: Reading::Null,
+        ..Creation::of(Record(objects::SC, bound.ec, priority, quantum, 0))
     };
     creation_rule::create(places, objects, domain, selector, pd, new)
 }
@@ -148,12 +140,8 @@ pub fn create_pt(
     let domain = capabilities::domain(places, objects, caller);
     let bound = bind(places, objects, domain, ec, BIND_PT);
     let new = Creation {
-        object: Record(objects::PT, bound.ec, mtd, ip, identifier),
         bindable: bound.permitted,
-        cpu_good: true,
-        parameters_good: true,
-        domain_left: true,
-        initial: Reading::Null,
+        ..Creation::of(Record(objects::PT, bound.ec, mtd, ip, identifier))
     };
     creation_rule::create(places, objects, domain, selector, pd, new)
 }
@@ -172,13 +160,6 @@ pub fn create_sm(
         Runs create_sm c (tables places.old objects.old) (tables places.new objects.new) result }
 {
     let domain = capabilities::domain(places, objects, caller);
-    let new = Creation {
-        object: Record(objects::SM, count, 0, 0, 0),
-        bindable: true,
-        cpu_good: true,
-        parameters_good: true,
-        domain_left: true,
-        initial: Reading::Null,
-    };
+    let new = Creation::of(Record(objects::SM, count, 0, 0, 0));
     creation_rule::create(places, objects, domain, selector, pd, new)
 }

@@ -1,20 +1,18 @@
 -- Laws of the marks of a revocation and of a census: what each place that is decided adds to the marks so far.
-use Prim.Native.Nat.{ℕ, ◌+◌, ◌*◌, ◌%◌, ◌^◌, ◌≤◌, ◌<◌}
+use Prim.Native.Nat.{ℕ, ◌+◌, ◌*◌, ◌/◌, ◌^◌, ◌≤◌, ◌<◌}
 use mathlib.Core.Path.{◌≡◌, refl, sym, ap, ◌∙◌}
 use mathlib.Core.Bool.{Bool, true, false, cond, ◌&&◌, ◌||◌, and-false}
 use mathlib.Core.List.{List}
 use native.Mathlib.Omega.{arith}
 use lib.Dec.{eqb, ltb}
-use lib.ListN.{length}
 use borrow.Author.Tests.{ltb-true, ltb-false, eqb-true, eq-eqb, ne_eqb}
 use Rattle.words.specs.Sizes.{object, object_order, page_order, spaces, selectors, start, stride, places, space_of}
 use Rattle.words.proofs.PlaceLaws.{start_rises, from_start, before_end}
 use Rattle.interface.specs.Places.{cap_at}
 use Rattle.interface.specs.Effects.{below}
 use Rattle.interface.proofs.Basics.BoolLaws.{cases, not_both}
-use Rattle.marks.specs.PlaceBits.{word_bits, mark_words, bit_at, SetIf}
-use Rattle.places.specs.Table.{Sized}
-use Rattle.descent.specs.Walks.{Linked, Marked, Marking}
+use Rattle.marks.specs.PlaceBits.{word_bits, bit_at, SetIf}
+use Rattle.descent.specs.Walks.{Marked, Marking}
 
 -- what a place that is set adds where a test is told: `here` says whether it is the place, `known` whether its answer was known before
 now_known : (here found known test : Bool) → (here ≡ true → found ≡ test) → ((found && here) || (known && test)) ≡ ((here || known) && test)
@@ -31,16 +29,10 @@ still_told true true test same = same refl
 still_told true false test same = refl
 
 -- before the first place nothing is to be told
-pub begun : {table : List ℕ} {first size : ℕ} {known marks : List ℕ} → Sized table → Linked (cap_at table) → first + size ≤ places → length known ≡ mark_words →
-    length marks ≡ mark_words → ((number : ℕ) → bit_at known number ≡ false) → ((number : ℕ) → bit_at marks number ≡ false) →
+pub begun : {table : List ℕ} {first size : ℕ} {known marks : List ℕ} → ((number : ℕ) → bit_at known number ≡ false) → ((number : ℕ) → bit_at marks number ≡ false) →
     Marking table first size 0 known marks
-begun sized links ends all_known all_marks none_known none =
+begun none_known none =
     record {
-      sized = sized;
-      links = links;
-      ends = ends;
-      all_known = all_known;
-      all_marks = all_marks;
       before = λ p l. absurd (omega arith);
       later = λ p l. rw (none p, none_known p);
     }
@@ -51,15 +43,15 @@ module _ {table : List ℕ} {first size walked : ℕ} {known marks : List ℕ} (
 
   -- the marks of the places before, and of those that are known, tell
   pub told_before : (p : ℕ) {before : Bool} → before ≡ ltb p walked → before ≡ true → bit_at marks p ≡ test p
-  told_before p is_before t = so_far.before p (ltb-true p walked (sym is_before ∙ t))
+  told_before p lt t = so_far.before p (ltb-true p walked (sym lt ∙ t))
 
   pub told_known : (p : ℕ) {is_known : Bool} → walked ≤ p → is_known ≡ bit_at known p → is_known ≡ true → bit_at marks p ≡ test p
   told_known p l is t = so_far.later p l ∙ rw (sym is ∙ t)
 
   pub told_either : (p : ℕ) {before is_known : Bool} → before ≡ ltb p walked → is_known ≡ bit_at known p → (before || is_known) ≡ true → bit_at marks p ≡ test p
-  told_either p {before} {is_known} is_before is t =
+  told_either p {before} {is_known} lt is t =
       cases (ltb p walked) (λ (b : ltb p walked ≡ true). so_far.before p (ltb-true p walked b))
-      (λ (f : ltb p walked ≡ false). told_known p (ltb-false p walked f) is (rw (is_before ∙ f) at t))
+      (λ (f : ltb p walked ≡ false). told_known p (ltb-false p walked f) is (rw (lt ∙ f) at t))
 
   -- a place becomes known
   pub settled : (at : ℕ) {found : Bool} {more more_marks : List ℕ} → found ≡ test at → SetIf true known at more → SetIf found marks at more_marks →
@@ -67,11 +59,6 @@ module _ {table : List ℕ} {first size walked : ℕ} {known marks : List ℕ} (
   settled at {found} is_found made marked =
       let here : (p : ℕ) → eqb p at ≡ true → found ≡ test p = λ p t. is_found ∙ ap test (sym (eqb-true p at t)) in
       record {
-        sized = so_far.sized;
-        links = so_far.links;
-        ends = so_far.ends;
-        all_known = made.as_long ∙ so_far.all_known;
-        all_marks = marked.as_long ∙ so_far.all_marks;
         before = λ p l. rw (marked.bits p, so_far.before p l) (still_told (eqb p at) found (test p) (here p));
         later = λ p l. rw (marked.bits p, made.bits p, so_far.later p l) (now_known (eqb p at) found (bit_at known p) (test p) (here p));
       }
@@ -82,11 +69,6 @@ module _ {table : List ℕ} {first size walked : ℕ} {known marks : List ℕ} (
   further {place} {found} is_place is_found marked =
       let here : (p : ℕ) → eqb p place ≡ true → found ≡ test p = λ p t. is_found ∙ ap test (sym (eqb-true p place t)) in
       record {
-        sized = so_far.sized;
-        links = so_far.links;
-        ends = so_far.ends;
-        all_known = so_far.all_known;
-        all_marks = marked.as_long ∙ so_far.all_marks;
         before = λ p l.
             cases (ltb p walked)
             (λ (b : ltb p walked ≡ true).
@@ -102,11 +84,6 @@ module _ {table : List ℕ} {first size walked : ℕ} {known marks : List ℕ} (
   pub passed : (next : ℕ) → walked ≤ next → ((p : ℕ) → walked ≤ p → p < next → test p ≡ false) → Marking table first size next known marks
   passed next on none =
       record {
-        sized = so_far.sized;
-        links = so_far.links;
-        ends = so_far.ends;
-        all_known = so_far.all_known;
-        all_marks = so_far.all_marks;
         before = λ p l.
             cases (ltb p walked) (λ (b : ltb p walked ≡ true). so_far.before p (ltb-true p walked b))
             (λ (f : ltb p walked ≡ false).
@@ -131,9 +108,9 @@ module _ (domain space p : ℕ) (small : space < spaces) (same : space_of p ≡ 
   not_after low high = omega (arith, rw same at (before_end p))
 
 -- a space has as many places as some words have marks
-pub whole_words : (space : ℕ) → selectors space % word_bits ≡ 0
+pub whole_words : (space : ℕ) → selectors space / word_bits * word_bits ≡ selectors space
 whole_words space = go (eqb space object)
   where
-    go : (there : Bool) → 2 ^ cond there object_order page_order % word_bits ≡ 0
+    go : (there : Bool) → 2 ^ cond there object_order page_order / word_bits * word_bits ≡ 2 ^ cond there object_order page_order
     go true = refl
     go false = refl

@@ -1,11 +1,10 @@
 -- Walks along the parent links of a place table.
-use Rattle.std.specs.Prelude.{ℕ, ◌≤◌, suc, ◌+◌, ◌<◌, ◌≡◌, Bool, ◌&&◌, eqb, length, List, [], ◌∷◌, if◌then◌else◌}
+use Rattle.std.specs.Prelude.{ℕ, ◌≤◌, suc, ◌+◌, ◌<◌, ◌≡◌, Bool, ◌&&◌, eqb, List, [], ◌∷◌, if◌then◌else◌}
 use Rattle.words.specs.Sizes.{places, space_of}
 use Rattle.interface.specs.Basics.{all_below}
 use Rattle.interface.specs.Places.{Cap, cap_at}
 use Rattle.interface.specs.Effects.{among, below}
-use Rattle.marks.specs.PlaceBits.{mark_words, bit_at}
-use Rattle.places.specs.Table.{Sized}
+use Rattle.marks.specs.PlaceBits.{bit_at}
 
 -- links that a walk can follow: a parent is a place of the same space whose depth is one less, and a place without a parent has depth 0
 pub record Linked (caps : ℕ → Cap) : Type 0 where
@@ -35,10 +34,5 @@ pub record Marked (test : ℕ → Bool) (marks : List ℕ) : Type 0 where
 
 -- a table on which the strict descendants of some places are being marked: the marks tell of the places before one and of those that are known, and no other mark is set
 pub record Marking (table : List ℕ) (first size walked : ℕ) (known marks : List ℕ) : Type 0 where
-  pub sized : Sized table
-  pub links : Linked (cap_at table)
-  pub ends : first + size ≤ places
-  pub all_known : length known ≡ mark_words
-  pub all_marks : length marks ≡ mark_words
   pub before : (place : ℕ) → place < walked → bit_at marks place ≡ below (cap_at table) first size place
   pub later : (place : ℕ) → walked ≤ place → bit_at marks place ≡ (bit_at known place && below (cap_at table) first size place)

@@ -1,4 +1,5 @@
 -- Laws of descriptors: what each definition gives on each of its ways out, what that tells a caller, and that words, fields and ranges make each other.
+use Rattle.std.specs.Prelude.{Ok, Err}
 use Prim.Native.Nat.{ℕ, ◌+◌, ◌-◌, ◌*◌, ◌/◌, ◌%◌, ◌^◌, ◌≤◌, ◌<◌, ◌∣◌}
 use mathlib.Core.Path.{◌≡◌, refl, sym, ap, subst, ◌∙◌}
 use mathlib.Core.Bool.{Bool, true, false, cond, ◌&&◌, ◌||◌, and-eq-true_iff, or-true}
@@ -15,12 +16,9 @@ use Rattle.words.proofs.SizeLaws.{selectors_object, greatest_small, selectors_fe
 use Rattle.descriptor.specs.declared.Range.{Range}
 use Rattle.descriptor.specs.declared.Reading.{Reading}
 use Rattle.descriptor.specs.declared.Reading.TheVariants.{Null, Malformed, Good}
-use Rattle.descriptor.specs.declared.Match.TheVariants.{Both, Neither}
 use Rattle.descriptor.specs.declared.Reason.{Reason}
 use Rattle.descriptor.specs.declared.Reason.TheVariants.{NullDescriptor, MalformedDescriptor, TypesDiffer, NothingFilled, TranslationBroke}
-use Rattle.descriptor.specs.declared.Received.{Received}
-use Rattle.descriptor.specs.declared.Received.TheVariants.{NullItem, Shows}
-use Rattle.descriptor.specs.Descriptors.{null, type_field, mask_field, order_field, base_field, type_of, word_of, describe, well_formed, wrapped, range_of, reading, matched, reason_number, why_null, kept, Proper}
+use Rattle.descriptor.specs.Descriptors.{Received, null, type_field, mask_field, order_field, base_field, type_of, word_of, describe, well_formed, wrapped, range_of, reading, matched, reason_number, why_null, kept, Proper, Match}
 
 -- the lowest field is a remainder, and the highest a quotient
 
@@ -121,23 +119,35 @@ reading_kept word = go (eqb (type_field word) 0) refl
 
 -- the rule that matches an item's range with its window
 
-pub matched_null : (window : Reading) → matched Null window ≡ Neither NullDescriptor
+pub matched_null : (window : Reading) → matched Null window ≡ Err NullDescriptor
 unfolding matched
 matched_null Null = refl
 matched_null Malformed = refl
 matched_null (Good window) = refl
 
 module _ (item window : Range) where
-  pub matched_both : item.space ≡ window.space → matched (Good item) (Good window) ≡ Both item window
+  pub matched_both : item.space ≡ window.space → matched (Good item) (Good window) ≡ Ok (item, window)
   unfolding matched
   matched_both h = rw (eq-eqb item.space window.space h)
 
-  pub matched_apart : (item.space ≡ window.space → ⊥) → matched (Good item) (Good window) ≡ Neither TypesDiffer
+  pub matched_apart : (item.space ≡ window.space → ⊥) → matched (Good item) (Good window) ≡ Err TypesDiffer
   unfolding matched
   matched_apart h = rw (ne_eqb item.space window.space h)
 
+-- a match is of one item and one window
+pub both_same : (a b item window : Range) → ◌≡◌ {A = Match} (Ok (a, b)) (Ok (item, window)) → (a ≡ item) × (b ≡ window)
+both_same a b item window e = (ap first e, ap second e)
+  where
+    first : Match → Range
+    first (Ok (one, other)) = one
+    first (Err reason) = a
+
+    second : Match → Range
+    second (Ok (one, other)) = other
+    second (Err reason) = b
+
 -- what is matched are two ranges of one space
-pub matched_good : (first second : Reading) (item window : Range) → matched first second ≡ Both item window →
+pub matched_good : (first second : Reading) (item window : Range) → matched first second ≡ Ok (item, window) →
     (first ≡ Good item) × (second ≡ Good window) × (item.space ≡ window.space)
 unfolding matched
 matched_good Null Null item window h = (cc, cc, cc)
@@ -150,9 +160,9 @@ matched_good (Good a) Null item window h = (cc, cc, cc)
 matched_good (Good a) Malformed item window h = (cc, cc, cc)
 matched_good (Good a) (Good b) item window h = go (eqb a.space b.space) refl h
   where
-    go : (same : Bool) → eqb a.space b.space ≡ same → cond same (Both a b) (Neither TypesDiffer) ≡ Both item window →
+    go : (same : Bool) → eqb a.space b.space ≡ same → cond {A = Match} same (Ok (a, b)) (Err TypesDiffer) ≡ Ok (item, window) →
         (Good a ≡ Good item) × (Good b ≡ Good window) × (item.space ≡ window.space)
-    go true e q = (cc, cc, cc (eqb-true a.space b.space e))
+    go true e q = let same = both_same a b item window q in (ap Good same.0, ap Good same.1, cc (same.0, same.1, eqb-true a.space b.space e))
     go false e q = (cc, cc, cc)
 
 -- the reasons' numbers
@@ -172,8 +182,8 @@ reason_most NothingFilled = omega arith
 reason_most TranslationBroke = omega arith
 
 pub why_most : (received : Received) → why_null received ≤ 5
-why_most (NullItem reason) = reason_most reason
-why_most (Shows range) = omega arith
+why_most (Err reason) = reason_most reason
+why_most (Ok range) = omega arith
 
 -- no two have the same
 reason_at : ℕ → Reason

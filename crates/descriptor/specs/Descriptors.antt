@@ -1,17 +1,13 @@
 -- Range descriptors: a word that names a range of a space and a mask.
-use Rattle.std.specs.Prelude.{ℕ, ◌+◌, ◌-◌, ◌*◌, ◌%◌, ◌^◌, ◌≤◌, ◌<◌, ◌≡◌, Bool, true, cond, ◌&&◌, ◌||◌, eqb, leb}
+use Rattle.std.specs.Prelude.{Result, Ok, Err, ℕ, ◌+◌, ◌-◌, ◌*◌, ◌%◌, ◌^◌, ◌≤◌, ◌<◌, ◌≡◌, Bool, true, cond, ◌&&◌, ◌||◌, eqb, leb}
 use Rattle.words.specs.Fields.{bits}
 use Rattle.words.specs.Sizes.{object, spaces, selectors, greatest_order}
 use Rattle.words.specs.Ranges.{aligned}
 use Rattle.descriptor.specs.declared.Range.{Range}
 use Rattle.descriptor.specs.declared.Reading.{Reading}
 use Rattle.descriptor.specs.declared.Reading.TheVariants.{Null, Malformed, Good}
-use Rattle.descriptor.specs.declared.Match.{Match}
-use Rattle.descriptor.specs.declared.Match.TheVariants.{Both, Neither}
 use Rattle.descriptor.specs.declared.Reason.{Reason}
 use Rattle.descriptor.specs.declared.Reason.TheVariants.{NullDescriptor, MalformedDescriptor, TypesDiffer, NothingFilled, TranslationBroke}
-use Rattle.descriptor.specs.declared.Received.{Received}
-use Rattle.descriptor.specs.declared.Received.TheVariants.{NullItem, Shows}
 
 -- the null descriptor
 abbrev pub null : ℕ
@@ -61,17 +57,21 @@ reading word =
     cond (eqb (type_field word) 0) Null
     (cond (well_formed space (order_field word) (base_field word)) (Good (range_of space word)) Malformed)
 
+-- an item's range and its window, or why the item is null
+abbrev pub Match : Type 0
+Match = Result (Range × Range) Reason
+
 -- an item's range with its window: where both are ranges of one space. Otherwise the first reason that applies: one is null, one is malformed, their types differ
 unfoldable pub matched : Reading → Reading → Match
-matched Null Null = Neither NullDescriptor
-matched Null Malformed = Neither NullDescriptor
-matched Null (Good window) = Neither NullDescriptor
-matched Malformed Null = Neither NullDescriptor
-matched Malformed Malformed = Neither MalformedDescriptor
-matched Malformed (Good window) = Neither MalformedDescriptor
-matched (Good item) Null = Neither NullDescriptor
-matched (Good item) Malformed = Neither MalformedDescriptor
-matched (Good item) (Good window) = cond (eqb item.space window.space) (Both item window) (Neither TypesDiffer)
+matched Null Null = Err NullDescriptor
+matched Null Malformed = Err NullDescriptor
+matched Null (Good window) = Err NullDescriptor
+matched Malformed Null = Err NullDescriptor
+matched Malformed Malformed = Err MalformedDescriptor
+matched Malformed (Good window) = Err MalformedDescriptor
+matched (Good item) Null = Err NullDescriptor
+matched (Good item) Malformed = Err MalformedDescriptor
+matched (Good item) (Good window) = cond (eqb item.space window.space) (Ok (item, window)) (Err TypesDiffer)
 
 -- the number of the reason why an item is null
 abbrev pub reason_number : Reason → ℕ
@@ -81,10 +81,14 @@ reason_number TypesDiffer = 3
 reason_number NothingFilled = 4
 reason_number TranslationBroke = 5
 
+-- what the receiver of an item is shown: a range, or nothing, for a reason
+abbrev pub Received : Type 0
+Received = Result Range Reason
+
 -- why an item is null: the number of its reason, or 0 where it is not null
 abbrev pub why_null : Received → ℕ
-why_null (NullItem reason) = reason_number reason
-why_null (Shows range) = 0
+why_null (Err reason) = reason_number reason
+why_null (Ok range) = 0
 
 -- a word as a descriptor keeps it: any word of type 0 is the null descriptor
 unfoldable pub kept : ℕ → ℕ
@@ -104,7 +108,7 @@ ReadProper read = (range : Range) → read ≡ Good range → Proper range
 
 -- what an item shows is a proper range, if it shows one
 abbrev pub ShownProper : Received → Type 0
-ShownProper received = (range : Range) → received ≡ Shows range → Proper range
+ShownProper received = (range : Range) → received ≡ Ok range → Proper range
 
 -- The round trips: the fields of a word make that word again; a word made of fields has those fields; what is read from a range's descriptor is that range;
 -- and what a word is read as is a proper range, if it is one

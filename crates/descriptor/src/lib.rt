@@ -1,10 +1,9 @@
 // The range descriptor: a range of selectors of a space with a mask, its word, reading a word, matching an item's range with its window, and why an item is null.
 #![tactic(auto)]
 
-ghost use Rattle.std.specs.Prelude.{◌≡◌, ◌+◌, ◌^◌, ◌<◌};
+ghost use Rattle.std.specs.Prelude.{Err, ◌≡◌, ◌+◌, ◌^◌, ◌<◌};
 ghost use Rattle.words.specs.Sizes.{selectors};
 ghost use Rattle.descriptor.specs.declared.Reading.TheVariants.{Malformed};
-ghost use Rattle.descriptor.specs.declared.Match.TheVariants.{Neither};
 ghost use Rattle.descriptor.specs.Descriptors.{kept, describe, reading, matched, reason_number, why_null, well_formed, Proper};
 
 use layout::Selector;
@@ -60,7 +59,7 @@ impl Range {
     }
 }
 
-// What a descriptor says: nothing, no range, or a range.
+// What a descriptor says: nothing, no range, or a range. Three outcomes and no `Result`: each call answers the three by itself, and `matched` takes the null one before the malformed.
 #[derive(Clone, Copy)]
 pub enum Reading {
     Null,
@@ -79,25 +78,17 @@ pub enum Reason {
 }
 
 // An item's range and its window, or why the item is null.
-#[derive(Clone, Copy)]
-pub enum Match {
-    Both(Range, Range),
-    Neither(Reason),
-}
+pub type Match = Result<(Range, Range), Reason>;
 
 // What the receiver of a typed item is shown: nothing, for a reason, or a range.
-#[derive(Clone, Copy)]
-pub enum Received {
-    NullItem(Reason),
-    Shows(Range),
-}
+pub type Received = Result<Range, Reason>;
 
-impl Reason {
-    // The number of the reason.
-    pub fn number(self) -> u32
-        ensures { result ≡ reason_number self }
-    {
-        match self {
+impl From<Reason> for u32 {
+    ghost from_gives = { λ reason number. number ≡ reason_number reason };
+
+    // The number of a reason.
+    fn from(reason: Reason) -> u32 {
+        match reason {
             Reason::NullDescriptor => 1,
             Reason::MalformedDescriptor => 2,
             Reason::TypesDiffer => 3,
@@ -107,22 +98,20 @@ impl Reason {
     }
 }
 
-impl Received {
-    // Why the item is null: the number of its reason, or 0 where it is not null.
-    pub fn why_null(self) -> u32
-        ensures { result ≡ why_null self }
-    {
-        match self {
-            Received::NullItem(reason) => reason.number(),
-            Received::Shows(_) => 0,
-        }
+// Why an item is null: the number of its reason, or 0 where it is not null, as the received word has it.
+pub fn why_null(received: Received) -> u32
+    ensures { result ≡ why_null received }
+{
+    match received {
+        Err(reason) => u32::from(reason),
+        Ok(_) => 0,
     }
 }
 
 impl Reading {
     // Why a malformed item is null, by its window: a null descriptor comes first.
     fn beside_malformed(self) -> Reason
-        ensures { matched Malformed self ≡ Neither result }
+        ensures { matched Malformed self ≡ Err result }
     {
         match self {
             Reading::Null => Reason::NullDescriptor,
@@ -136,16 +125,16 @@ impl Reading {
         ensures { result ≡ matched self window }
     {
         match self {
-            Reading::Null => Match::Neither(Reason::NullDescriptor),
-            Reading::Malformed => Match::Neither(window.beside_malformed()),
+            Reading::Null => Err(Reason::NullDescriptor),
+            Reading::Malformed => Err(window.beside_malformed()),
             Reading::Good(item) => match window {
-                Reading::Null => Match::Neither(Reason::NullDescriptor),
-                Reading::Malformed => Match::Neither(Reason::MalformedDescriptor),
+                Reading::Null => Err(Reason::NullDescriptor),
+                Reading::Malformed => Err(Reason::MalformedDescriptor),
                 Reading::Good(other) => {
                     if item.space == other.space {
-                        Match::Both(item, other)
+                        Ok((item, other))
                     } else {
-                        Match::Neither(Reason::TypesDiffer)
+                        Err(Reason::TypesDiffer)
                     }
                 }
             },

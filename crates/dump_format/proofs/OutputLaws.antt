@@ -1,4 +1,5 @@
 -- What is printed of a dump, and what repair does to its bytes.
+use Rattle.std.specs.Prelude.{Option, Some, None}
 use Prim.Native.Nat.{ℕ, zero, suc, ◌+◌, ◌-◌, ◌*◌, ◌/◌, ◌%◌, ◌^◌, ◌≤◌, ◌<◌}
 use mathlib.Core.Path.{◌≡◌, refl, sym, ap, ◌∙◌}
 use mathlib.Core.Logic.{◌⊎◌, inl, inr, ⊎_elim}
@@ -10,7 +11,7 @@ use borrow.Author.Tests.{lt-ltb, le-ltb, le-leb, lt-leb}
 use Rattle.endian.specs.Numbers.{bytes_of}
 use Rattle.endian.specs.Runs.{bytes_of_each}
 use Rattle.reply.specs.declared.Fault.{Fault}
-use Rattle.reply.specs.declared.Fault.TheVariants.{NoFault, AtRecord, AtPlace}
+use Rattle.reply.specs.declared.Fault.TheVariants.{AtRecord, AtPlace}
 use Rattle.interface.specs.Basics.{word}
 use Rattle.interface.specs.Places.{Cap, Tables, nothing, cap_at, shown}
 use Rattle.interface.specs.Damage.{sound, fault}
@@ -33,17 +34,17 @@ module _ (bytes : List ℕ) where
     unfolding output
     told = rw (le-ltb (length bytes) dump_bytes (omega arith), le-ltb dump_bytes (length bytes) (omega arith))
 
-    told_as : (found : Fault) → fault (tables_in bytes) ≡ found → output bytes ≡ fault_line found ++ repaired_dump bytes
-    told_as found e = told ∙ ap (λ (f : Fault). fault_line f ++ repaired_dump bytes) e
+    told_as : (found : Option Fault) → fault (tables_in bytes) ≡ found → output bytes ≡ fault_line found ++ repaired_dump bytes
+    told_as found e = told ∙ ap (λ (f : Option Fault). fault_line f ++ repaired_dump bytes) e
 
-    pub told_record : (rule r : ℕ) → FirstAtRecord (shown (tables_in bytes)) rule r → output bytes ≡ fault_line (AtRecord rule r) ++ repaired_dump bytes
-    told_record rule r h = told_as (AtRecord rule r) (first_record (tables_in bytes) (tables_long bytes) rule r h)
+    pub told_record : (rule r : ℕ) → FirstAtRecord (shown (tables_in bytes)) rule r → output bytes ≡ fault_line (Some (AtRecord rule r)) ++ repaired_dump bytes
+    told_record rule r h = told_as (Some (AtRecord rule r)) (first_record (tables_in bytes) (tables_long bytes) rule r h)
 
-    pub told_place : (rule p : ℕ) → FirstAtPlace (shown (tables_in bytes)) rule p → output bytes ≡ fault_line (AtPlace rule p) ++ repaired_dump bytes
-    told_place rule p h = told_as (AtPlace rule p) (first_place (tables_in bytes) (tables_long bytes) rule p h)
+    pub told_place : (rule p : ℕ) → FirstAtPlace (shown (tables_in bytes)) rule p → output bytes ≡ fault_line (Some (AtPlace rule p)) ++ repaired_dump bytes
+    told_place rule p h = told_as (Some (AtPlace rule p)) (first_place (tables_in bytes) (tables_long bytes) rule p h)
 
-    pub told_sound : sound (tables_in bytes) ≡ true → output bytes ≡ fault_line NoFault ++ repaired_dump bytes
-    told_sound h = told_as NoFault ((damage_named.no_fault (tables_in bytes)).1 h)
+    pub told_sound : sound (tables_in bytes) ≡ true → output bytes ≡ fault_line None ++ repaired_dump bytes
+    told_sound h = told_as None ((damage_named.no_fault (tables_in bytes)).1 h)
 
 pub line_tells : LineTells
 unfolding output broken_line
@@ -181,10 +182,10 @@ bytes_exactly =
     }
 
 -- a sound dump
-comes_back : (bytes : List ℕ) → IsDump bytes → sound (tables_in bytes) ≡ true → output bytes ≡ fault_line NoFault ++ bytes
+comes_back : (bytes : List ℕ) → IsDump bytes → sound (tables_in bytes) ≡ true → output bytes ≡ fault_line None ++ bytes
 unfolding repaired_dump
 comes_back bytes is h =
-    told_sound bytes is.long h ∙ ap (λ (d : List ℕ). fault_line NoFault ++ d) (ap dump_of (repairs_once.sound_stays (tables_in bytes) h) ∙ bytes_back bytes is)
+    told_sound bytes is.long h ∙ ap (λ (d : List ℕ). fault_line None ++ d) (ap dump_of (repairs_once.sound_stays (tables_in bytes) h) ∙ bytes_back bytes is)
 
 repaired_is_dump : (bytes : List ℕ) → IsDump (repaired_dump bytes)
 unfolding repaired_dump

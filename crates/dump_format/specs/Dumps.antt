@@ -1,10 +1,10 @@
 -- Dumps: both tables as bytes, the line that is printed of a dump, and the whole output. Sections 17.2, 17.3 and 17.7 of the manual.
-use Rattle.std.specs.Prelude.{ℕ, ◌+◌, ◌*◌, List, [], ◌∷◌, ◌++◌, leb, ltb, length, if◌then◌else◌}
+use Rattle.std.specs.Prelude.{ℕ, ◌+◌, ◌*◌, List, [], ◌∷◌, ◌++◌, leb, ltb, length, if◌then◌else◌, Option, Some, None}
 use Rattle.endian.specs.Parts.{written}
 use Rattle.endian.specs.Numbers.{bytes_of}
 use Rattle.endian.specs.Runs.{bytes_of_each, numbers_at}
 use Rattle.reply.specs.declared.Fault.{Fault}
-use Rattle.reply.specs.declared.Fault.TheVariants.{NoFault, Lengths, AtRecord, AtPlace}
+use Rattle.reply.specs.declared.Fault.TheVariants.{Lengths, AtRecord, AtPlace}
 use Rattle.interface.specs.Places.{Tables, place_table_words, object_table_words}
 use Rattle.interface.specs.Damage.{fault}
 use Rattle.interface.specs.Journal.{decimal, newline}
@@ -55,11 +55,11 @@ unfoldable pub broken_line : ℕ → List ℕ → ℕ → List ℕ
 broken_line rule between number = decimal rule ++ between ++ decimal number ++ (newline ∷ [])
 
 -- the line of a fault. That of lengths, rule 1, is no dump's: tables that were read from one have their lengths
-abbrev pub fault_line : Fault → List ℕ
-fault_line NoFault = sound_line
-fault_line Lengths = decimal 1 ++ (newline ∷ [])
-fault_line (AtRecord rule number) = broken_line rule record_word number
-fault_line (AtPlace rule place) = broken_line rule place_word place
+abbrev pub fault_line : Option Fault → List ℕ
+fault_line None = sound_line
+fault_line (Some Lengths) = decimal 1 ++ (newline ∷ [])
+fault_line (Some (AtRecord rule number)) = broken_line rule record_word number
+fault_line (Some (AtPlace rule place)) = broken_line rule place_word place
 
 -- all that is printed of a dump: the line alone where its length is wrong, and otherwise the line of its first fault, and then the repaired dump
 unfoldable pub output : List ℕ → List ℕ

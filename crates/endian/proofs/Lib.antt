@@ -2,4 +2,4 @@
 pub mod PartLaws
 pub mod NumberLaws
 pub mod RunLaws
-pub mod SignedLaws
+pub mod LibraryLaws

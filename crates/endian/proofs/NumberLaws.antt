@@ -1,22 +1,17 @@
 -- Numbers and their bytes make each other, for every width; a number's bytes are those of its low and of its high part.
 use Prim.Native.Nat.{ℕ, zero, suc, ◌+◌, ◌*◌, ◌/◌, ◌%◌, ◌^◌, ◌≤◌, ◌<◌}
-use mathlib.Core.Path.{◌≡◌, refl, sym, ap, ◌∙◌}
+use mathlib.Core.Path.{◌≡◌, refl, ap, ◌∙◌}
 use mathlib.Core.List.{List, [], ◌∷◌, ◌++◌}
 use native.Mathlib.Nat.{pow-suc, one-le-pow, div-div-eq-div-mul}
 use native.Mathlib.Numerals.{add-one}
 use native.Mathlib.Omega.{arith}
 use lib.Arith.{mod-mul}
-use lib.ListN.{length, get_or, set, length-set}
+use lib.ListN.{length, get_or}
 use lib.Seq.{take-nil, drop-nil, take_at, drop_at}
-use Rattle.endian.specs.Parts.{AreBytes, part, written}
+use Rattle.endian.specs.Parts.{AreBytes, part}
 use Rattle.endian.specs.Numbers.{little, bytes_of, number_at}
-use Rattle.endian.proofs.PartLaws.{length_part, part_add, part_bytes, written_then, byte_written}
-
--- a number has as many bytes as were asked for
-pub length_bytes : (width number : ℕ) → length (bytes_of width number) ≡ width
-unfolding bytes_of
-length_bytes zero number = refl
-length_bytes (suc width) number = ap suc (length_bytes width (number / 256))
+pub use Rattle.endian.specs.Numbers.{length_bytes}
+use Rattle.endian.proofs.PartLaws.{length_part, part_bytes}
 
 -- each of them is a byte
 pub bytes_bytes : (width number : ℕ) → AreBytes (bytes_of width number)
@@ -79,11 +74,6 @@ bytes_low (suc width) number =
     let high : (number / 256 % power * 256 + number % 256) / 256 ≡ number / 256 % power = omega arith in
     rw (split, low, high, bytes_low width (number / 256))
 
--- the number at a place is that of its low bytes and that of the bytes after them
-pub number_add : (bytes : List ℕ) (at low high : ℕ) → at + low ≤ length bytes → number_at bytes at (low + high) ≡ number_at bytes at low + 256 ^ low * number_at bytes (at + low) high
-unfolding number_at
-number_add bytes at low high fits = rw (part_add bytes at low high, little_append, length_part bytes at low fits)
-
 -- the number at a place is that of the byte there, which is 0 past the end, and that of the bytes after it
 number_cons : (bytes : List ℕ) (at size : ℕ) → number_at bytes at (suc size) ≡ get_or bytes at 0 + 256 * number_at bytes (at + 1) size
 unfolding little number_at
@@ -106,16 +96,6 @@ number_of_four bytes at r e =
     let three : at + 2 + 1 ≡ at + 3 = omega arith in
     rw (number_cons bytes at 3, number_cons bytes (at + 1) 2, two, number_cons bytes (at + 2) 1, three, number_cons bytes (at + 3) 0) e
 
--- bytes written one after the other are one number written: its low part, then its high part
-pub written_add : (list : List ℕ) (at low high number : ℕ) → at + (low + high) ≤ length list →
-    written (written list at (bytes_of low (number % 256 ^ low))) (at + low) (bytes_of high (number / 256 ^ low)) ≡ written list at (bytes_of (low + high) number)
-written_add list at low high number fits =
-    let first = bytes_of low number in
-    let second = bytes_of high (number / 256 ^ low) in
-    let inside : at ≤ length list = omega arith in
-    let place : at + low ≡ at + length first = ap (λ (k : ℕ). at + k) (sym (length_bytes low number)) in
-    rw (bytes_low low number, bytes_add low high number, place) (written_then list at inside first second)
-
 -- the number at a place where a number's bytes stand
 pub number_back : (front rest : List ℕ) (at width number : ℕ) → length front ≡ at → number < 256 ^ width → number_at (front ++ (bytes_of width number ++ rest)) at width ≡ number
 unfolding number_at
@@ -137,14 +117,3 @@ number_below bytes at width each fits =
     let whole = part bytes at width in
     let below : little whole < 256 ^ length whole = little_below whole (part_bytes bytes at width each) in
     rw (length_part bytes at width fits) at below
-
--- two bytes stored one after the other are a number of 16 bits written
-pub stored_two : (list : List ℕ) (at number : ℕ) → at + 2 ≤ length list → number < 65536 → set (set list at (number % 256)) (at + 1) (number / 256) ≡ written list at (bytes_of 2 number)
-unfolding bytes_of
-stored_two list at number fits small =
-    let low = number % 256 in
-    let high = number / 256 in
-    let one : set list at low ≡ written list at (low ∷ []) = byte_written list at low (omega arith) in
-    let inside : at + 1 < length (set list at low) = simp length-set (omega arith) in
-    let top : high % 256 ≡ high = omega arith in
-    byte_written (set list at low) (at + 1) high inside ∙ (rw (one, top) (written_then list at (omega arith) (low ∷ []) (high ∷ [])))

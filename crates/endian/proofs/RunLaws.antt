@@ -85,21 +85,20 @@ module _ {A : Type 0} (bytes : A → List ℕ) (size : ℕ) (same : (one : A) �
       let place : at + size * i ≡ at + length (bytes_of_each bytes first) = ap (λ (k : ℕ). at + k) (ap (λ (k : ℕ). size * k) (sym count) ∙ sym (length_each bytes size same first)) in
       now ∙ (rw (before, place, each_more bytes first one) (written_then list at inside (bytes_of_each bytes first) (bytes one)))
 
--- numbers of a width, written in turn
-module _ (width : ℕ) (list : List ℕ) (at : ℕ) (numbers : List ℕ) where
-  pub none_yet : list ≡ written list at (bytes_of_each (bytes_of width) (take 0 numbers))
-  unfolding bytes_of_each
-  none_yet = written_nothing list at
+  -- the items of a list, written in turn
+  module _ (list : List ℕ) (at : ℕ) (items : List A) where
+    pub none_yet : list ≡ written list at (bytes_of_each bytes (take 0 items))
+    unfolding bytes_of_each
+    none_yet = written_nothing list at
 
-  pub number_more : (after next : List ℕ) (i : ℕ) → i < length numbers → at ≤ length list → after ≡ written list at (bytes_of_each (bytes_of width) (take i numbers)) →
-      next ≡ written after (at + width * i) (bytes_of width (get_or numbers i 0)) → next ≡ written list at (bytes_of_each (bytes_of width) (take (i + 1) numbers))
-  number_more after next i more inside before now =
-      rw (add-one, take-suc numbers i 0 more)
-      (item_more (bytes_of width) width (length_bytes width) list after next at i (take i numbers) (get_or numbers i 0) (length-take-le i numbers (omega arith)) inside before now)
+    pub item_next : (after next : List ℕ) (i : ℕ) (one : A) → i < length items → one ≡ get_or items i one → at ≤ length list → after ≡ written list at (bytes_of_each bytes (take i items)) →
+        next ≡ written after (at + size * i) (bytes one) → next ≡ written list at (bytes_of_each bytes (take (i + 1) items))
+    item_next after next i one more is inside before now =
+        let longer : take (i + 1) items ≡ take i items ++ (one ∷ []) = (rw (add-one, take-suc items i one more)) ∙ ap (λ (item : A). take i items ++ (item ∷ [])) (sym is) in
+        rw longer (item_more list after next at i (take i items) one (length-take-le i items (omega arith)) inside before now)
 
-  pub numbers_all : (after : List ℕ) (i : ℕ) → i ≡ length numbers → after ≡ written list at (bytes_of_each (bytes_of width) (take i numbers)) →
-      after ≡ written list at (bytes_of_each (bytes_of width) numbers)
-  numbers_all after i all e = e ∙ (rw (all, take-length numbers))
+    pub items_all : (after : List ℕ) (i : ℕ) → i ≡ length items → after ≡ written list at (bytes_of_each bytes (take i items)) → after ≡ written list at (bytes_of_each bytes items)
+    items_all after i all e = e ∙ (rw (all, take-length items))
 
 -- numbers of a width are read where their bytes stand
 pub read_numbers : (width : ℕ) (list front rest : List ℕ) (at : ℕ) → length front ≡ at → Each (λ (n : ℕ). n < 256 ^ width) list →
@@ -123,19 +122,19 @@ pub write_numbers : (width at count : ℕ) (bytes : List ℕ) → AreBytes bytes
     bytes_of_each (bytes_of width) (numbers_at bytes at width count) ≡ part bytes at (width * count)
 write_numbers width at count bytes each fits = write_each (bytes_of width) (λ k. number_at bytes k width) bytes width (λ k inside. bytes_at bytes k width each inside) count at fits
 
--- numbers of a width, read in turn into a list
-module _ (width : ℕ) (bytes : List ℕ) (at : ℕ) (list : List ℕ) where
-  pub none_read : list ≡ numbers_at bytes at width 0 ++ drop 0 list
+-- what stands at places a distance apart, read in turn into a list
+module _ {A : Type 0} (what : ℕ → A) (at distance : ℕ) (list : List A) where
+  pub none_read : list ≡ spaced what at distance 0 ++ drop 0 list
   unfolding spaced
   none_read = refl
 
-  pub read_more : (after : List ℕ) (i number : ℕ) → i < length list → after ≡ numbers_at bytes at width i ++ drop i list → number ≡ number_at bytes (at + width * i) width →
-      set after i number ≡ numbers_at bytes at width (i + 1) ++ drop (i + 1) list
-  read_more after i number more before now =
-      let first = numbers_at bytes at width i in
-      let stored : set (first ++ (get_or list i 0 ∷ drop (suc i) list)) i number ≡ first ++ (number ∷ drop (suc i) list) =
-      set_at first (get_or list i 0) (drop (suc i) list) number i (length_spaced (λ (k : ℕ). number_at bytes k width) at width i) in
-      rw (before, add-one, drop-cons list i 0 more, spaced_more (λ (k : ℕ). number_at bytes k width) at width i, sym now) (stored ∙ sym (append_snoc first number (drop (suc i) list)))
+  pub read_more : (after : List A) (i : ℕ) (one : A) → i < length list → after ≡ spaced what at distance i ++ drop i list → one ≡ what (at + distance * i) →
+      set after i one ≡ spaced what at distance (i + 1) ++ drop (i + 1) list
+  read_more after i one more before now =
+      let first = spaced what at distance i in
+      let stored : set (first ++ (get_or list i one ∷ drop (suc i) list)) i one ≡ first ++ (one ∷ drop (suc i) list) =
+      set_at first (get_or list i one) (drop (suc i) list) one i (length_spaced what at distance i) in
+      rw (before, add-one, drop-cons list i one more, spaced_more what at distance i, sym now) (stored ∙ sym (append_snoc first one (drop (suc i) list)))
 
-  pub all_read : (after : List ℕ) (i : ℕ) → i ≡ length list → after ≡ numbers_at bytes at width i ++ drop i list → after ≡ numbers_at bytes at width (length list)
-  all_read after i all e = e ∙ (rw (all, drop-length list) (append-nil (numbers_at bytes at width (length list))))
+  pub all_read : (after : List A) (i : ℕ) → i ≡ length list → after ≡ spaced what at distance i ++ drop i list → after ≡ spaced what at distance (length list)
+  all_read after i all e = e ∙ (rw (all, drop-length list) (append-nil (spaced what at distance (length list))))

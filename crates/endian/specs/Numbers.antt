@@ -1,5 +1,6 @@
 -- Numbers as bytes, the lowest byte first.
 use Rattle.std.specs.Prelude.{ℕ, zero, suc, ◌+◌, ◌*◌, ◌/◌, ◌%◌, ◌^◌, ◌<◌, ◌≡◌, List, [], ◌∷◌, length}
+use Rattle.std.proofs.Common.{refl, ap}
 use Rattle.endian.specs.Parts.{AreBytes, part}
 
 -- the number of some bytes
@@ -11,6 +12,12 @@ little (byte ∷ bytes) = byte + 256 * little bytes
 unfoldable pub bytes_of : ℕ → ℕ → List ℕ
 bytes_of zero number = []
 bytes_of (suc width) number = number % 256 ∷ bytes_of width (number / 256)
+
+-- a number has as many bytes as were asked for
+pub length_bytes : (width number : ℕ) → length (bytes_of width number) ≡ width
+unfolding bytes_of
+length_bytes zero number = refl
+length_bytes (suc width) number = ap suc (length_bytes width (number / 256))
 
 -- the number that stands at a place, so many bytes wide; bytes past the end of the list count as 0
 unfoldable pub number_at : List ℕ → ℕ → ℕ → ℕ

@@ -1,12 +1,15 @@
 -- The types that a memory descriptor may have.
-use Prim.Native.Nat.{ℕ, zero, suc, ◌+◌, ◌-◌, ◌^◌, ◌≤◌, ◌<◌}
-use mathlib.Core.Path.{◌≡◌, refl, sym, ◌∙◌}
+use Prim.Native.Nat.{ℕ, zero, suc, ◌+◌, ◌-◌, ◌*◌, ◌^◌, ◌≤◌, ◌<◌}
+use mathlib.Core.Path.{◌≡◌, refl, sym, ap, ◌∙◌}
 use mathlib.Core.Logic.{◌↔◌, inl, inr, ⊎_elim}
 use mathlib.Core.Bool.{Bool, true, false, ◌&&◌, ◌||◌, and-false, or-false}
 use mathlib.Core.List.{List, [], ◌∷◌}
 use native.Mathlib.Omega.{arith}
 use lib.Dec.{ltb, leb}
 use lib.IntN.{ℤ, pos, negsuc}
+use lib.ListN.{length, get_or}
+use Rattle.std.specs.Bool.{MatchBool}
+use Rattle.std.specs.List.{AllWithin, HoldsAt}
 use mir.Syntax.{w32}
 use mir.Val.{to_z}
 use mir.Facts.{to_z_pos}
@@ -75,22 +78,37 @@ type_tested bits fits = go (ltb bits 2147483648) refl
         (same_decided (leb 4294967294 bits) (ltb (4294967296 - suc bits) 2) (decides_most 4294967294 bits)
         (record { tells = λ t. omega (arith, ltb-true (4294967296 - suc bits) 2 t); holds = λ l. lt-ltb (4294967296 - suc bits) 2 (omega arith) }))
 
--- the types of what stands from a place on: the first, and those after it
-module _ (what : ℕ → Memory) (at distance : ℕ) where
-  pub first_refused : (left : ℕ) (allowed : Bool) → 0 < left → allowed ≡ type_allowed (what at).kind → allowed ≡ false → false ≡ types_allowed (spaced what at distance left)
+-- the types of what stands at places a distance apart are allowed where each is, and not where one is not
+module _ (what : ℕ → Memory) (distance : ℕ) where
+  each_allowed : (at count : ℕ) → ((i : ℕ) → i < count → type_allowed (what (at + distance * i)).kind ≡ true) → types_allowed (spaced what at distance count) ≡ true
   unfolding types_allowed spaced
-  first_refused zero allowed some e f = absurd (omega arith)
-  first_refused (suc left) allowed some e f = rw (sym e ∙ f)
+  each_allowed at zero each = refl
+  each_allowed at (suc count) each =
+      let here : at + distance * 0 ≡ at = omega arith in
+      let first : type_allowed (what at).kind ≡ true = rw here at (each 0 (omega arith)) in
+      rw first
+      (each_allowed (at + distance) count
+      (λ i more. let place : at + distance + distance * i ≡ at + distance * suc i = omega arith in rw place (each (suc i) (omega arith))))
 
-  pub first_allowed : (left : ℕ) (allowed : Bool) → 0 < left → allowed ≡ type_allowed (what at).kind → allowed ≡ true →
-      types_allowed (spaced what at distance left) ≡ types_allowed (spaced what (at + distance) distance (left - 1))
+  one_refused : (at count index : ℕ) → index < count → type_allowed (what (at + distance * index)).kind ≡ false → types_allowed (spaced what at distance count) ≡ false
   unfolding types_allowed spaced
-  first_allowed zero allowed some e t = absurd (omega arith)
-  first_allowed (suc left) allowed some e t =
-      let back : suc left - 1 ≡ left = omega arith in
-      rw (sym e ∙ t, back)
+  one_refused at zero index inside bad = absurd (omega arith)
+  one_refused at (suc count) zero inside bad =
+      let here : at + distance * 0 ≡ at = omega arith in
+      let first : type_allowed (what at).kind ≡ false = rw here at bad in
+      rw first
+  one_refused at (suc count) (suc index) inside bad =
+      let place : at + distance + distance * index ≡ at + distance * suc index = omega arith in
+      rw (one_refused (at + distance) count index (omega arith) (rw place bad)) (and-false (type_allowed (what at).kind))
 
-  pub none_left : (left : ℕ) → left ≤ 0 → true ≡ types_allowed (spaced what at distance left)
-  unfolding types_allowed spaced
-  none_left zero none = refl
-  none_left (suc left) none = absurd (omega arith)
+  -- so they are as a test of each item of a list says
+  pub all_tested : {A : Type 0} (at count : ℕ) (kind_of : A → ℤ) (items : List A) (other : A) (tested : Bool) → length items ≡ count →
+      ((i : ℕ) → i < count → (what (at + distance * i)).kind ≡ kind_of (get_or items i other)) →
+      MatchBool tested (AllWithin (λ (item : A). type_allowed (kind_of item) ≡ true) items 0 (length items))
+      ((i : ℕ) × (i < length items) × HoldsAt (λ (item : A). type_allowed (kind_of item) ≡ false) items i) →
+      tested ≡ types_allowed (spaced what at distance count)
+  all_tested at count kind_of items other true long kinds each =
+      sym (each_allowed at count (λ i more. ap type_allowed (kinds i more) ∙ each i other (omega arith) (omega arith)))
+  all_tested at count kind_of items other false long kinds one =
+      let inside : one.0 < count = omega (arith, one.1) in
+      sym (one_refused at count one.0 inside (ap type_allowed (kinds one.0 inside) ∙ one.2 other))

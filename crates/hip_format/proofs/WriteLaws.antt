@@ -15,8 +15,9 @@ use Rattle.hip_format.specs.Format.{greatest_length, Contents, page_length, chec
 use Rattle.hip_format.specs.Reader.{types_allowed, accepted, judged}
 use Rattle.hip_format.specs.Writer.{Writing, writing}
 use Rattle.hip_format.specs.Consequences.{Fits}
-use Rattle.hip_format.specs.declared.Written.{Written}
-use Rattle.hip_format.specs.declared.Written.TheVariants.{Done, «Type», Large, Room}
+use Rattle.std.specs.Prelude.{Result, Ok, Err}
+use Rattle.hip_format.specs.declared.WriteRefusal.{WriteRefusal}
+use Rattle.hip_format.specs.declared.WriteRefusal.TheVariants.{«Type», Large, Room}
 use Rattle.hip_format.proofs.PageLaws.{length_page}
 use Rattle.hip_format.proofs.JudgeLaws.{typed_of, contents_of_lem}
 use Rattle.hip_format.proofs.BackLaws.{reads_back, read_length, written_back}
@@ -37,11 +38,11 @@ module _ (contents : Contents) (buffer : List ℕ) where
   abbrev no_space : Bool
   no_space = ltb (length buffer) (page_length contents)
 
-  abbrev left : Written → Writing
-  left answer = record { answer = answer; buffer = buffer }
+  abbrev left : WriteRefusal → Writing
+  left refusal = record { answer = Err refusal; buffer = buffer }
 
   abbrev done : Writing
-  done = record { answer = Done (page_length contents); buffer = page contents ++ drop (page_length contents) buffer }
+  done = record { answer = Ok (page_length contents); buffer = page contents ++ drop (page_length contents) buffer }
 
   abbrev in_turn : Bool → Bool → Bool → Writing
   in_turn t l s = cond (not t) (left «Type») (cond l (left Large) (cond s (left Room) done))
@@ -51,11 +52,11 @@ module _ (contents : Contents) (buffer : List ℕ) where
   writing_in_turn = refl
 
   -- what an answer tells of the tests
-  abbrev Told : Written → Bool → Bool → Bool → Type 0
-  Told «Type» t l s = t ≡ false
-  Told Large t l s = (t ≡ true) × (l ≡ true)
-  Told Room t l s = (t ≡ true) × (l ≡ false) × (s ≡ true)
-  Told (Done count) t l s = (t ≡ true) × (l ≡ false) × (s ≡ false) × (count ≡ page_length contents)
+  abbrev Told : Result ℕ WriteRefusal → Bool → Bool → Bool → Type 0
+  Told (Err «Type») t l s = t ≡ false
+  Told (Err Large) t l s = (t ≡ true) × (l ≡ true)
+  Told (Err Room) t l s = (t ≡ true) × (l ≡ false) × (s ≡ true)
+  Told (Ok count) t l s = (t ≡ true) × (l ≡ false) × (s ≡ false) × (count ≡ page_length contents)
 
   told : (t l s : Bool) → Told (in_turn t l s).answer t l s
   told false l s = refl
@@ -63,19 +64,19 @@ module _ (contents : Contents) (buffer : List ℕ) where
   told true false true = (refl, refl, refl)
   told true false false = (refl, refl, refl, refl)
 
-  tells : {answer : Written} → (writing contents buffer).answer ≡ answer → Told answer allowed too_large no_space
+  tells : {answer : Result ℕ WriteRefusal} → (writing contents buffer).answer ≡ answer → Told answer allowed too_large no_space
   tells {answer} e = rw (ap (λ (w : Writing). w.answer) (sym writing_in_turn) ∙ e) at (told allowed too_large no_space)
 
-  pub refused_type : ((writing contents buffer).answer ≡ «Type») ↔ (types_allowed contents.memories ≡ false)
+  pub refused_type : ((writing contents buffer).answer ≡ Err «Type») ↔ (types_allowed contents.memories ≡ false)
   refused_type = (λ e. tells e, λ f. ap (λ (w : Writing). w.answer) writing_in_turn ∙ (rw f))
 
-  pub refused_large : ((writing contents buffer).answer ≡ Large) ↔ ((types_allowed contents.memories ≡ true) × (65535 < page_length contents))
+  pub refused_large : ((writing contents buffer).answer ≡ Err Large) ↔ ((types_allowed contents.memories ≡ true) × (65535 < page_length contents))
   refused_large = (
     λ e. let t = tells e in (t.0, ltb-true greatest_length (page_length contents) t.1),
     λ facts. ap (λ (w : Writing). w.answer) writing_in_turn ∙ (rw (facts.0, lt-ltb greatest_length (page_length contents) facts.1)),
   )
 
-  pub refused_room : ((writing contents buffer).answer ≡ Room) ↔ ((types_allowed contents.memories ≡ true) × (page_length contents ≤ 65535) × (length buffer < page_length contents))
+  pub refused_room : ((writing contents buffer).answer ≡ Err Room) ↔ ((types_allowed contents.memories ≡ true) × (page_length contents ≤ 65535) × (length buffer < page_length contents))
   refused_room = (
     λ e. let t = tells e in
         (t.0, ltb-false greatest_length (page_length contents) t.1, ltb-true (length buffer) (page_length contents) t.2),
@@ -84,10 +85,10 @@ module _ (contents : Contents) (buffer : List ℕ) where
   )
 
   -- a refused write leaves the buffer
-  pub buffer_stays : ((count : ℕ) → (writing contents buffer).answer ≡ Done count → ⊥) → (writing contents buffer).buffer ≡ buffer
+  pub buffer_stays : ((count : ℕ) → (writing contents buffer).answer ≡ Ok count → ⊥) → (writing contents buffer).buffer ≡ buffer
   buffer_stays not_done = ap (λ (w : Writing). w.buffer) writing_in_turn ∙ stays allowed too_large no_space (λ count e. not_done count (ap (λ (w : Writing). w.answer) writing_in_turn ∙ e))
     where
-      stays : (t l s : Bool) → ((count : ℕ) → (in_turn t l s).answer ≡ Done count → ⊥) → (in_turn t l s).buffer ≡ buffer
+      stays : (t l s : Bool) → ((count : ℕ) → (in_turn t l s).answer ≡ Ok count → ⊥) → (in_turn t l s).buffer ≡ buffer
       stays false l s not_done = refl
       stays true true s not_done = refl
       stays true false true not_done = refl
@@ -98,7 +99,7 @@ module _ (contents : Contents) (buffer : List ℕ) where
   written_good t small room = writing_in_turn ∙ (rw (t, le-ltb greatest_length (page_length contents) small, le-ltb (length buffer) (page_length contents) room))
 
 -- what is written reads back equal
-pub written_reads : (contents : Contents) (buffer : List ℕ) (count : ℕ) → Fits contents → (writing contents buffer).answer ≡ Done count →
+pub written_reads : (contents : Contents) (buffer : List ℕ) (count : ℕ) → Fits contents → (writing contents buffer).answer ≡ Ok count →
     judged (take count (writing contents buffer).buffer) ≡ accepted contents
 written_reads contents buffer count fits e =
     let t = tells contents buffer e in
@@ -110,7 +111,7 @@ written_reads contents buffer count fits e =
 
 -- an accepted page is written back byte for byte
 pub same_written : (bytes : List ℕ) (contents : Contents) (buffer : List ℕ) → AreBytes bytes → judged bytes ≡ accepted contents → length bytes ≤ length buffer →
-    writing contents buffer ≡ record { answer = Done (length bytes); buffer = bytes ++ drop (length bytes) buffer }
+    writing contents buffer ≡ record { answer = Ok (length bytes); buffer = bytes ++ drop (length bytes) buffer }
 same_written bytes contents buffer each e room =
     let typed = typed_of bytes contents e in
     let same = contents_of_lem bytes contents e in

@@ -1,6 +1,6 @@
 -- What follows from the definitions: reading and writing undo each other, each refusal has exactly its cause, the counts are those of the header's fields, and one checksum fits.
 -- Numbers of the page stand here as numbers.
-use Rattle.std.specs.Prelude.{ℕ, ◌+◌, ◌-◌, ◌*◌, ◌/◌, ◌%◌, ◌^◌, ◌≤◌, ◌<◌, ◌≡◌, ◌↔◌, ◌⊎◌, true, false, List, [], ◌∷◌, ◌++◌, map, ℤ, pos, negsuc, length, get_or, take, drop}
+use Rattle.std.specs.Prelude.{ℕ, ◌+◌, ◌-◌, ◌*◌, ◌/◌, ◌%◌, ◌^◌, ◌≤◌, ◌<◌, ◌≡◌, ◌↔◌, ◌⊎◌, true, false, List, [], ◌∷◌, ◌++◌, map, ℤ, pos, negsuc, length, get_or, take, drop, Some, None, Ok, Err}
 use Rattle.endian.specs.Parts.{AreBytes}
 use Rattle.endian.specs.Numbers.{bytes_of}
 use Rattle.endian.specs.Runs.{bytes_of_each, Each}
@@ -12,10 +12,8 @@ use Rattle.hip_format.specs.declared.Cpu.{Cpu}
 use Rattle.hip_format.specs.declared.Memory.{Memory}
 use Rattle.hip_format.specs.declared.Refusal.{Refusal}
 use Rattle.hip_format.specs.declared.Refusal.TheVariants.{Short, Signature, Length, Layout, Checksum, «Type»}
-use Rattle.hip_format.specs.declared.Written.TheVariants.{Done, Large, Room}
-use Rattle.hip_format.specs.declared.Written as Written
-use Rattle.hip_format.specs.declared.FoundCpu as FoundCpu
-use Rattle.hip_format.specs.declared.FoundMemory as FoundMemory
+use Rattle.hip_format.specs.declared.WriteRefusal.TheVariants.{Large, Room}
+use Rattle.hip_format.specs.declared.WriteRefusal as WriteRefusal
 
 -- the numbers of a page's contents have the widths that the code's types give them; a type that is allowed has its width
 abbrev pub HeaderFits : Header → Type 0
@@ -37,13 +35,13 @@ pub record Fits (contents : Contents) : Type 0 where
 -- What is written reads back equal: the bytes that a write counts are judged to be the page of what was written
 abbrev pub ReadsBack : Type 0
 ReadsBack =
-    (contents : Contents) (buffer : List ℕ) (count : ℕ) → Fits contents → (writing contents buffer).answer ≡ Done count →
+    (contents : Contents) (buffer : List ℕ) (count : ℕ) → Fits contents → (writing contents buffer).answer ≡ Ok count →
     judged (take count (writing contents buffer).buffer) ≡ accepted contents
 
 -- An accepted page is written back byte for byte, into any buffer that is long enough; and its contents fit, so that the page reads back again
 pub record WrittenBack : Type 0 where
   pub same_bytes_lem : (bytes : List ℕ) (contents : Contents) (buffer : List ℕ) → AreBytes bytes → judged bytes ≡ accepted contents → length bytes ≤ length buffer →
-      writing contents buffer ≡ record { answer = Done (length bytes); buffer = bytes ++ drop (length bytes) buffer }
+      writing contents buffer ≡ record { answer = Ok (length bytes); buffer = bytes ++ drop (length bytes) buffer }
   pub fits : (bytes : List ℕ) (contents : Contents) → AreBytes bytes → judged bytes ≡ accepted contents → Fits contents
 
 -- the header of a page lies as it must: where the parts begin, how large a descriptor of each is, and that both parts are whole
@@ -96,14 +94,14 @@ pub record RefusedExactly : Type 0 where
 
 -- Each refusal to write has exactly its cause behind the tests before it, and leaves the buffer as it was
 pub record WriteRefusedExactly : Type 0 where
-  pub bad_type : (contents : Contents) (buffer : List ℕ) → ((writing contents buffer).answer ≡ Written.TheVariants.«Type») ↔ (types_allowed contents.memories ≡ false)
-  pub large : (contents : Contents) (buffer : List ℕ) → ((writing contents buffer).answer ≡ Large) ↔
+  pub bad_type : (contents : Contents) (buffer : List ℕ) → ((writing contents buffer).answer ≡ Err WriteRefusal.TheVariants.«Type») ↔ (types_allowed contents.memories ≡ false)
+  pub large : (contents : Contents) (buffer : List ℕ) → ((writing contents buffer).answer ≡ Err Large) ↔
       ((types_allowed contents.memories ≡ true) × (65535 < page_length contents))
-  pub no_room : (contents : Contents) (buffer : List ℕ) → ((writing contents buffer).answer ≡ Room) ↔
+  pub no_room : (contents : Contents) (buffer : List ℕ) → ((writing contents buffer).answer ≡ Err Room) ↔
       ((types_allowed contents.memories ≡ true) × (page_length contents ≤ 65535) × (length buffer < page_length contents))
-  pub stays : (contents : Contents) (buffer : List ℕ) → ((count : ℕ) → (writing contents buffer).answer ≡ Done count → ⊥) → (writing contents buffer).buffer ≡ buffer
+  pub stays : (contents : Contents) (buffer : List ℕ) → ((count : ℕ) → (writing contents buffer).answer ≡ Ok count → ⊥) → (writing contents buffer).buffer ≡ buffer
   pub good : (contents : Contents) (buffer : List ℕ) → types_allowed contents.memories ≡ true → page_length contents ≤ 65535 → page_length contents ≤ length buffer →
-      writing contents buffer ≡ record { answer = Done (page_length contents); buffer = page contents ++ drop (page_length contents) buffer }
+      writing contents buffer ≡ record { answer = Ok (page_length contents); buffer = page contents ++ drop (page_length contents) buffer }
   pub long : (contents : Contents) → length (page contents) ≡ page_length contents
 
 -- What the writer is given: the four lists have as many descriptors as the shortest of them, each with the numbers of its index; the CPU bytes have a descriptor for each four;
@@ -131,15 +129,15 @@ pub record CountsByFields : Type 0 where
 -- The descriptors of an accepted page stand one after the other from their offset on, and there are none past their count
 pub record DescriptorsStand : Type 0 where
   pub cpu : (bytes : List ℕ) (contents : Contents) (index : ℕ) → judged bytes ≡ accepted contents → index < length contents.cpus →
-      cpu_of (judged bytes) index ≡ FoundCpu.TheVariants.At (cpu_at bytes (56 + 4 * index))
+      cpu_of (judged bytes) index ≡ Some (cpu_at bytes (56 + 4 * index))
   pub no_cpu_lem : (bytes : List ℕ) (contents : Contents) (index : ℕ) → judged bytes ≡ accepted contents → length contents.cpus ≤ index →
-      cpu_of (judged bytes) index ≡ FoundCpu.TheVariants.Nothing
+      cpu_of (judged bytes) index ≡ None
   pub memory : (bytes : List ℕ) (contents : Contents) (index : ℕ) → judged bytes ≡ accepted contents → index < length contents.memories →
-      memory_of (judged bytes) index ≡ FoundMemory.TheVariants.At (memory_at bytes (memory_offset bytes + 24 * index))
+      memory_of (judged bytes) index ≡ Some (memory_at bytes (memory_offset bytes + 24 * index))
   pub no_memory_lem : (bytes : List ℕ) (contents : Contents) (index : ℕ) → judged bytes ≡ accepted contents → length contents.memories ≤ index →
-      memory_of (judged bytes) index ≡ FoundMemory.TheVariants.Nothing
+      memory_of (judged bytes) index ≡ None
   pub none_refused : (bytes : List ℕ) (refusal : Refusal) (index : ℕ) → judged bytes ≡ refused refusal →
-      (cpu_of (judged bytes) index ≡ FoundCpu.TheVariants.Nothing) × (memory_of (judged bytes) index ≡ FoundMemory.TheVariants.Nothing)
+      (cpu_of (judged bytes) index ≡ None) × (memory_of (judged bytes) index ≡ None)
 
 -- Every word of 16 bits counts in the sum of a page's words
 pub record WordsCount : Type 0 where

@@ -1,5 +1,5 @@
 -- The example of the manual, and pages at the bounds, as one list of statements under one name.
-use Rattle.std.specs.Prelude.{ℕ, ◌≡◌, List, [], ◌∷◌, ℤ, pos, negsuc, take, set}
+use Rattle.std.specs.Prelude.{ℕ, ◌≡◌, List, [], ◌∷◌, ℤ, pos, negsuc, take, set, Ok, Err}
 use Rattle.hip_format.specs.Format.{Contents, page}
 use Rattle.hip_format.specs.Reader.{refused, accepted, judged, reading}
 use Rattle.hip_format.specs.Writer.{writing}
@@ -7,9 +7,8 @@ use Rattle.hip_format.specs.declared.Header.{Header}
 use Rattle.hip_format.specs.declared.Cpu.{Cpu}
 use Rattle.hip_format.specs.declared.Memory.{Memory}
 use Rattle.hip_format.specs.declared.Refusal.TheVariants.{Short, Signature, Length, Layout, Checksum, «Type»}
-use Rattle.hip_format.specs.declared.Reading.TheVariants.{Refused, Accepted}
-use Rattle.hip_format.specs.declared.Written.TheVariants.{Done, Room}
-use Rattle.hip_format.specs.declared.Written as Written
+use Rattle.hip_format.specs.declared.WriteRefusal.TheVariants.{Room}
+use Rattle.hip_format.specs.declared.WriteRefusal as WriteRefusal
 
 -- each of a list of statements
 abbrev pub All : List (Type 0) → Type 0
@@ -76,7 +75,7 @@ PageExamples =
     All (
     (page example_contents ≡ example_page) ∷
     (judged example_page ≡ accepted example_contents) ∷
-    (reading (judged example_page) ≡ Accepted (record { header = example_header; cpus = 4; memories = 7 })) ∷
+    (reading (judged example_page) ≡ Ok (record { header = example_header; cpus = 4; memories = 7 })) ∷
     (judged (with_byte 16 2) ≡ refused Checksum) ∷
     (judged (take 239 example_page) ≡ refused Length) ∷
     (judged (take 239 (with_byte 6 239)) ≡ refused Layout) ∷
@@ -87,8 +86,8 @@ PageExamples =
     (judged (page (one_range (pos 5))) ≡ refused «Type») ∷
     (judged (page (one_range (negsuc 2))) ≡ refused «Type») ∷
     (judged (page (one_range (negsuc 1))) ≡ accepted (one_range (negsuc 1))) ∷
-    (reading (refused Layout) ≡ Refused Layout) ∷
-    ((writing (one_range (pos 0)) []).answer ≡ Written.TheVariants.«Type») ∷
-    ((writing empty_contents []).answer ≡ Room) ∷
-    ((writing example_contents example_page).answer ≡ Done 240) ∷
+    (reading (refused Layout) ≡ Err Layout) ∷
+    ((writing (one_range (pos 0)) []).answer ≡ Err WriteRefusal.TheVariants.«Type») ∷
+    ((writing empty_contents []).answer ≡ Err Room) ∷
+    ((writing example_contents example_page).answer ≡ Ok 240) ∷
     [])

@@ -1,5 +1,5 @@
 -- Reading bytes as an information page: what stands where, the tests in their order, and what is answered.
-use Rattle.std.specs.Prelude.{ℕ, zero, suc, ◌+◌, ◌-◌, ◌/◌, ◌%◌, Bool, true, false, cond, ◌&&◌, List, [], ◌∷◌, eqb, leb, length, get_or, take}
+use Rattle.std.specs.Prelude.{ℕ, ◌+◌, ◌-◌, ◌/◌, ◌%◌, Bool, true, false, cond, ◌&&◌, List, [], ◌∷◌, eqb, leb, length, get_or, take, slice_get, Option, None, Result, Ok, Err}
 use Rattle.std.specs.Int.{w32}
 use Rattle.std.proofs.Common.{to_z}
 use Rattle.endian.specs.Numbers.{number_at}
@@ -11,10 +11,6 @@ use Rattle.hip_format.specs.declared.Memory.{Memory}
 use Rattle.hip_format.specs.declared.Refusal.{Refusal}
 use Rattle.hip_format.specs.declared.Refusal.TheVariants.{Short, Signature, Length, Layout, Checksum, «Type»}
 use Rattle.hip_format.specs.declared.Summary.{Summary}
-use Rattle.hip_format.specs.declared.Reading.{Reading}
-use Rattle.hip_format.specs.declared.Reading.TheVariants.{Refused, Accepted}
-use Rattle.hip_format.specs.declared.FoundCpu as FoundCpu
-use Rattle.hip_format.specs.declared.FoundMemory as FoundMemory
 
 -- the number of a refusal
 abbrev pub refusal_number : Refusal → ℕ
@@ -127,21 +123,15 @@ judged bytes =
 abbrev pub summary : Contents → Summary
 summary contents = record { header = contents.header; cpus = length contents.cpus; memories = length contents.memories }
 
-abbrev pub reading : Judgement → Reading
-reading (refused refusal) = Refused refusal
-reading (accepted contents) = Accepted (summary contents)
-
--- what is made of the member of an index in a list, or of there being none
-unfoldable pub nth : {A B : Type 0} → B → (A → B) → List A → ℕ → B
-nth none found [] index = none
-nth none found (one ∷ others) zero = found one
-nth none found (one ∷ others) (suc index) = nth none found others index
+abbrev pub reading : Judgement → Result Summary Refusal
+reading (refused refusal) = Err refusal
+reading (accepted contents) = Ok (summary contents)
 
 -- the descriptor of an index: a refused page has none
-abbrev pub cpu_of : Judgement → ℕ → FoundCpu.FoundCpu
-cpu_of (refused refusal) index = FoundCpu.TheVariants.Nothing
-cpu_of (accepted contents) index = nth FoundCpu.TheVariants.Nothing FoundCpu.TheVariants.At contents.cpus index
+abbrev pub cpu_of : Judgement → ℕ → Option Cpu
+cpu_of (refused refusal) index = None
+cpu_of (accepted contents) index = slice_get contents.cpus index
 
-abbrev pub memory_of : Judgement → ℕ → FoundMemory.FoundMemory
-memory_of (refused refusal) index = FoundMemory.TheVariants.Nothing
-memory_of (accepted contents) index = nth FoundMemory.TheVariants.Nothing FoundMemory.TheVariants.At contents.memories index
+abbrev pub memory_of : Judgement → ℕ → Option Memory
+memory_of (refused refusal) index = None
+memory_of (accepted contents) index = slice_get contents.memories index

@@ -6,7 +6,7 @@ ghost use Rattle.std.specs.Int.{w32};
 ghost use Rattle.std.proofs.Common.{to_z};
 ghost use Rattle.hip_format.specs.Format.{type_allowed, fields, word_sum};
 ghost use Rattle.hip_format.specs.Reader.{refusal_number};
-ghost use Rattle.hip_format.specs.Writer.{written_number};
+ghost use Rattle.hip_format.specs.Writer.{write_refusal_number, written_number};
 
 pub mod theorems;
 
@@ -102,12 +102,12 @@ pub enum Refusal {
     Type,
 }
 
-impl Refusal {
+impl From<Refusal> for u32 {
+    ghost from_gives = { λ refusal number. number ≡ refusal_number refusal };
+
     // The number of a refusal.
-    pub fn number(self) -> u32
-        ensures { result ≡ refusal_number self }
-    {
-        match self {
+    fn from(refusal: Refusal) -> u32 {
+        match refusal {
             Refusal::Short => 1,
             Refusal::Signature => 2,
             Refusal::Length => 3,
@@ -126,47 +126,34 @@ pub struct Summary {
     pub memories: usize,
 }
 
-// What reading some bytes comes to.
+// Why a page is not written, in the order of the tests.
 #[derive(Clone, Copy)]
-pub enum Reading {
-    Refused(Refusal),
-    Accepted(Summary),
-}
-
-// A CPU descriptor of a page, where there is one.
-#[derive(Clone, Copy)]
-pub enum FoundCpu {
-    Nothing,
-    At(Cpu),
-}
-
-// A memory descriptor of a page, where there is one.
-#[derive(Clone, Copy)]
-pub enum FoundMemory {
-    Nothing,
-    At(Memory),
-}
-
-// What writing a page comes to: its length, or why it is not written, in the order of the tests.
-#[derive(Clone, Copy)]
-pub enum Written {
-    Done(usize),
+pub enum WriteRefusal {
     Type,
     Large,
     Room,
 }
 
-impl Written {
-    // The number of a refusal to write, 0 where the page is written.
-    pub fn number(self) -> u32
-        ensures { result ≡ written_number self }
-    {
-        match self {
-            Written::Done(_) => 0,
-            Written::Type => 6,
-            Written::Large => 7,
-            Written::Room => 8,
+impl From<WriteRefusal> for u32 {
+    ghost from_gives = { λ refusal number. number ≡ write_refusal_number refusal };
+
+    // The number of a refusal to write.
+    fn from(refusal: WriteRefusal) -> u32 {
+        match refusal {
+            WriteRefusal::Type => 6,
+            WriteRefusal::Large => 7,
+            WriteRefusal::Room => 8,
         }
+    }
+}
+
+// The number of what writing a page comes to: 0 where it is written, and otherwise the refusal's.
+pub fn written_number(done: Result<usize, WriteRefusal>) -> u32
+    ensures { result ≡ written_number done }
+{
+    match done {
+        Ok(_) => 0,
+        Err(refusal) => u32::from(refusal),
     }
 }
 
@@ -182,10 +169,8 @@ pub fn word_sum(bytes: &[u8]) -> u16
     ensures { result ≡ word_sum bytes.now % 65536 }
 {
     let mut sum: u16 = 0;
-    let mut at: usize = 0;
-    while at + 1 < bytes.len() {
-        sum = ((sum as u32 + endian::get16(bytes, at) as u32) % 65536) as u16;
-        at += 2;
+    for &[low, high] in bytes.as_chunks::<2>().0 {
+        sum = sum.wrapping_add(u16::from_le_bytes([low, high]));
     }
     sum
 }

@@ -6,7 +6,9 @@ use mathlib.Core.List.{List}
 use native.Mathlib.Omega.{arith}
 use lib.Dec.{eqb}
 use lib.IntN.{ℤ}
-use lib.ListN.{length, take, get_or}
+use lib.ListN.{length, take}
+use Rattle.std.specs.Prelude.{Some, Result, Ok, Err}
+use Rattle.std.specs.Result.{result_ok}
 use mir.Syntax.{w32}
 use mir.Val.{of_z, to_z}
 use mir.Facts.{of_z-to_z}
@@ -15,7 +17,6 @@ use Rattle.endian.specs.Parts.{AreBytes}
 use Rattle.endian.specs.Numbers.{number_at}
 use Rattle.endian.specs.Runs.{spaced}
 use Rattle.endian.proofs.NumberLaws.{number_below}
-use Rattle.endian.proofs.PartLaws.{part_four}
 use Rattle.endian.proofs.RunLaws.{length_spaced}
 use Rattle.hip_format.specs.Format.{signature, Contents, word_sum}
 use Rattle.hip_format.specs.Reader.{length_field, cpu_offset, cpu_size_field, memory_offset, memory_size_field, header_at, cpu_at, memory_at, contents_of, same_bytes, layout_good, types_allowed, Judgement, refused, accepted, judged, summary, reading, cpu_of, memory_of}
@@ -23,30 +24,12 @@ use Rattle.hip_format.specs.Consequences.{LaysOut, Typed}
 use Rattle.hip_format.specs.declared.Header.{Header}
 use Rattle.hip_format.specs.declared.Cpu.{Cpu}
 use Rattle.hip_format.specs.declared.Memory.{Memory}
-use Rattle.hip_format.specs.declared.FoundCpu as FoundCpu
-use Rattle.hip_format.specs.declared.FoundMemory as FoundMemory
 use Rattle.hip_format.specs.declared.Refusal.{Refusal}
 use Rattle.hip_format.specs.declared.Refusal.TheVariants.{Short, Signature, Length, Layout, Checksum, «Type»}
 use Rattle.hip_format.specs.declared.Summary.{Summary}
-use Rattle.hip_format.specs.declared.Reading.{Reading}
-use Rattle.hip_format.specs.declared.Reading.TheVariants.{Refused, Accepted}
 use Rattle.hip_format.proofs.JudgeLaws.{fails, decides_layout, typed_of, contents_of_lem}
 use Rattle.hip_format.proofs.BackLaws.{cpus_counted, memories_counted}
-use Rattle.hip_format.proofs.DescriptorLaws.{cpu_stands, no_cpu_lem, memory_stands, no_memory_lem, none_refused}
-
--- four tests in a row, grouped either way
-regrouped : (a b c d : Bool) → (a && b && c && d) ≡ (a && (b && (c && (d && true))))
-regrouped false b c d = refl
-regrouped true false c d = refl
-regrouped true true false d = refl
-regrouped true true true d = sym (and-true d)
-
--- the signature, byte by byte
-pub four_signed : (bytes : List ℕ) → 56 ≤ length bytes →
-    (eqb (get_or bytes 0 0) 78 && eqb (get_or bytes 1 0) 79 && eqb (get_or bytes 2 0) 86 && eqb (get_or bytes 3 0) 65) ≡ same_bytes (take 4 bytes) signature
-four_signed bytes long =
-    regrouped (eqb (get_or bytes 0 0) 78) (eqb (get_or bytes 1 0) 79) (eqb (get_or bytes 2 0) 86) (eqb (get_or bytes 3 0) 65) ∙
-    ap (λ (l : List ℕ). same_bytes l signature) (sym (part_four bytes 0 (omega arith)))
+use Rattle.hip_format.proofs.DescriptorLaws.{cpu_stands, memory_stands}
 
 -- the layout: a memory offset out of order, and otherwise five tests
 pub layout_early : (bytes : List ℕ) (start : ℕ) → start ≡ memory_offset bytes → start < 56 → false ≡ layout_good bytes
@@ -73,28 +56,28 @@ module _ (bytes : List ℕ) where
 
 -- what the reader answers on each way out
 module _ (bytes : List ℕ) where
-  pub answers_short : length bytes < 56 → Refused Short ≡ reading (judged bytes)
+  pub answers_short : length bytes < 56 → Err Short ≡ reading (judged bytes)
   unfolding judged
   answers_short short = rw (lt-leb 56 (length bytes) short)
 
   module _ (long : 56 ≤ length bytes) (is_Signed : Bool) (signed : is_Signed ≡ same_bytes (take 4 bytes) signature) where
-    pub answers_signature : is_Signed ≡ false → Refused Signature ≡ reading (judged bytes)
+    pub answers_signature : is_Signed ≡ false → Err Signature ≡ reading (judged bytes)
     unfolding judged
     answers_signature f = rw (le-leb 56 (length bytes) long, sym signed ∙ f)
 
     module _ (t2 : is_Signed ≡ true) (field : ℕ) (measured : field ≡ length_field bytes) where
-      pub answers_length : (field ≡ length bytes → ⊥) → Refused Length ≡ reading (judged bytes)
+      pub answers_length : (field ≡ length bytes → ⊥) → Err Length ≡ reading (judged bytes)
       unfolding judged
       answers_length f = rw (le-leb 56 (length bytes) long, sym signed ∙ t2, ne_eqb (length_field bytes) (length bytes) (λ (e : length_field bytes ≡ length bytes). f (measured ∙ e)))
 
       module _ (t3 : field ≡ length bytes) (is_laid_out : Bool) (laid_out : is_laid_out ≡ layout_good bytes) where
-        pub answers_layout : is_laid_out ≡ false → Refused Layout ≡ reading (judged bytes)
+        pub answers_layout : is_laid_out ≡ false → Err Layout ≡ reading (judged bytes)
         unfolding judged
         answers_layout f =
             rw (le-leb 56 (length bytes) long, sym signed ∙ t2, eq-eqb (length_field bytes) (length bytes) (sym measured ∙ t3), sym laid_out ∙ f)
 
         module _ (t4 : is_laid_out ≡ true) (sum : ℕ) (summed : sum ≡ word_sum bytes % 65536) where
-          pub answers_checksum : (sum ≡ 0 → ⊥) → Refused Checksum ≡ reading (judged bytes)
+          pub answers_checksum : (sum ≡ 0 → ⊥) → Err Checksum ≡ reading (judged bytes)
           unfolding judged
           answers_checksum f =
               rw (
@@ -111,7 +94,7 @@ module _ (bytes : List ℕ) where
             unfolding contents_of
             typed = rw begins at allowed
 
-            pub answers_type : are_allowed ≡ false → Refused «Type» ≡ reading (judged bytes)
+            pub answers_type : are_allowed ≡ false → Err «Type» ≡ reading (judged bytes)
             unfolding judged
             answers_type f =
                 rw (
@@ -124,7 +107,7 @@ module _ (bytes : List ℕ) where
                 )
 
             pub answers_summary : are_allowed ≡ true → (header : Header) → header ≡ header_at bytes →
-                Accepted (record { header = header; cpus = (start - 56) / 4; memories = (length bytes - start) / 24 }) ≡ reading (judged bytes)
+                Ok (record { header = header; cpus = (start - 56) / 4; memories = (length bytes - start) / 24 }) ≡ reading (judged bytes)
             unfolding judged contents_of
             answers_summary t header made =
                 rw (
@@ -160,20 +143,20 @@ pub record Accepts (bytes : List ℕ) (summary : Summary) : Type 0 where
   pub cpus_read : length (contents_of bytes).cpus ≡ summary.cpus
   pub memories_read : length (contents_of bytes).memories ≡ summary.memories
 
-pub refuses : (bytes : List ℕ) (refusal : Refusal) (answer : Reading) → answer ≡ reading (judged bytes) → answer ≡ Refused refusal → judged bytes ≡ refused refusal
+pub refuses : (bytes : List ℕ) (refusal : Refusal) (answer : Result Summary Refusal) → answer ≡ reading (judged bytes) → answer ≡ Err refusal → judged bytes ≡ refused refusal
 refuses bytes refusal answer e a = go (judged bytes) refl
   where
     go : (judgement : Judgement) → judged bytes ≡ judgement → judged bytes ≡ refused refusal
-    go (refused why) j = let same : reading (judged bytes) ≡ Refused why = ap reading j in cc
-    go (accepted contents) j = let same : reading (judged bytes) ≡ Accepted (summary contents) = ap reading j in cc
+    go (refused why) j = let same : reading (judged bytes) ≡ Err why = ap reading j in cc
+    go (accepted contents) j = let same : reading (judged bytes) ≡ Ok (summary contents) = ap reading j in cc
 
-pub accepts : (bytes : List ℕ) (found : Summary) (answer : Reading) → answer ≡ reading (judged bytes) → answer ≡ Accepted found → Accepts bytes found
+pub accepts : (bytes : List ℕ) (found : Summary) (answer : Result Summary Refusal) → answer ≡ reading (judged bytes) → answer ≡ Ok found → Accepts bytes found
 accepts bytes found answer e a = go (judged bytes) refl
   where
     go : (judgement : Judgement) → judged bytes ≡ judgement → Accepts bytes found
-    go (refused why) j = let same : reading (judged bytes) ≡ Refused why = ap reading j in let never : ◌≡◌ {A = ℕ} 0 1 = cc in absurd (omega arith)
+    go (refused why) j = let same : reading (judged bytes) ≡ Err why = ap reading j in let never : ◌≡◌ {A = ℕ} 0 1 = cc in absurd (omega arith)
     go (accepted contents) j =
-        let same : reading (judged bytes) ≡ Accepted (summary contents) = ap reading j in
+        let same : reading (judged bytes) ≡ Ok (summary contents) = ap reading j in
         let told : found ≡ summary contents = cc in
         let standing : contents ≡ contents_of bytes = contents_of_lem bytes contents j in
         let typed : Typed bytes = typed_of bytes contents j in
@@ -189,29 +172,22 @@ accepts bytes found answer e a = go (judged bytes) refl
           memories_read = sym (memories ∙ ap (λ (c : Contents). length c.memories) standing);
         }
 
+-- the summary that a reading has is that of an accepted page
+pub accepts_some : {bytes : List ℕ} {found : Summary} (answer : Result Summary Refusal) → answer ≡ reading (judged bytes) → result_ok answer ≡ Some found → Accepts bytes found
+accepts_some {bytes} {found} (Ok summary) e some = accepts bytes found (Ok summary) e cc
+accepts_some (Err refusal) e some = cc
+
 -- the descriptor of an index
 module _ (bytes : List ℕ) (index : ℕ) where
-  pub no_cpu_refused : (refusal : Refusal) → judged bytes ≡ refused refusal → FoundCpu.TheVariants.Nothing ≡ cpu_of (judged bytes) index
-  no_cpu_refused refusal e = sym (none_refused bytes refusal index e).0
-
-  pub no_memory_refused : (refusal : Refusal) → judged bytes ≡ refused refusal → FoundMemory.TheVariants.Nothing ≡ memory_of (judged bytes) index
-  no_memory_refused refusal e = sym (none_refused bytes refusal index e).1
-
   module _ {summary : Summary} (page : Accepts bytes summary) where
-    pub cpu_past : summary.cpus ≤ index → FoundCpu.TheVariants.Nothing ≡ cpu_of (judged bytes) index
-    cpu_past past = sym (no_cpu_lem bytes (contents_of bytes) index page.is_page (rw page.cpus_read past))
-
-    pub cpu_found : (cpu : Cpu) → index < summary.cpus → cpu ≡ cpu_at bytes (56 + 4 * index) → FoundCpu.TheVariants.At cpu ≡ cpu_of (judged bytes) index
+    pub cpu_found : (cpu : Cpu) → index < summary.cpus → cpu ≡ cpu_at bytes (56 + 4 * index) → Some cpu ≡ cpu_of (judged bytes) index
     cpu_found cpu inside e =
-        ap FoundCpu.TheVariants.At e ∙ sym (cpu_stands bytes (contents_of bytes) index page.is_page (rw page.cpus_read inside))
-
-    pub memory_past : summary.memories ≤ index → FoundMemory.TheVariants.Nothing ≡ memory_of (judged bytes) index
-    memory_past past = sym (no_memory_lem bytes (contents_of bytes) index page.is_page (rw page.memories_read past))
+        ap Some e ∙ sym (cpu_stands bytes (contents_of bytes) index page.is_page (rw page.cpus_read inside))
 
     pub memory_found : (start : ℕ) (memory : Memory) → index < summary.memories → start ≡ memory_offset bytes → memory ≡ memory_at bytes (start + 24 * index) →
-        FoundMemory.TheVariants.At memory ≡ memory_of (judged bytes) index
+        Some memory ≡ memory_of (judged bytes) index
     memory_found start memory inside begin e =
-        ap FoundMemory.TheVariants.At (rw begin at e) ∙ sym (memory_stands bytes (contents_of bytes) index page.is_page (rw page.memories_read inside))
+        ap Some (rw begin at e) ∙ sym (memory_stands bytes (contents_of bytes) index page.is_page (rw page.memories_read inside))
 
 -- a page is no longer than its length field can say
 pub short_page : (bytes : List ℕ) (found : Summary) → AreBytes bytes → Accepts bytes found → length bytes < 65536

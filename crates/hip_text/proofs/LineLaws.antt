@@ -25,7 +25,7 @@ use Rattle.hip_format.specs.declared.Cpu.{Cpu}
 use Rattle.hip_format.specs.declared.Memory.{Memory}
 use Rattle.hip_format.specs.declared.Refusal.{Refusal}
 use Rattle.hip_format.specs.declared.Summary.{Summary}
-use Rattle.hip_format.specs.declared.Reading.TheVariants.{Accepted}
+use Rattle.std.specs.Prelude.{Ok}
 use Rattle.hip_format.proofs.FieldLaws.{and_left, and_right}
 use Rattle.hip_format.proofs.JudgeLaws.{typed_of}
 use Rattle.hip_format.proofs.TypeLaws.{type_exactly}
@@ -123,30 +123,31 @@ module _ {A : Type 0} (row : ℕ → A → List ℕ) where
       let here : first + suc index ≡ first + 1 + index = omega arith in
       rw (same, here) (row_at what distance count (start + distance) (first + 1) index (omega arith))
 
+-- the lines above the rows of a table
+module _ (none heads : List ℕ) (rows : List (List ℕ)) (count index : ℕ) {before after : List ℕ} {at end : ℕ} where
+  pub above_first : index ≡ 0 → Wrote before at line_end after end → Wrote before at (get_or (table none heads rows) index []) after end
+  unfolding table
+  above_first first wrote = rw first wrote
+
+  pub above_none : index ≡ 1 → length rows ≡ count → count ≡ 0 → Wrote before at none after end → Wrote before at (get_or (table none heads rows) index []) after end
+  unfolding table
+  above_none second counted no_row wrote = rw (second, counted, eq-eqb count 0 no_row) wrote
+
+  pub above_heads : index ≡ 1 → length rows ≡ count → (count ≡ 0 → ⊥) → Wrote before at heads after end → Wrote before at (get_or (table none heads rows) index []) after end
+  unfolding table
+  above_heads second counted some wrote = rw (second, counted, ne_eqb count 0 some) wrote
+
 -- the lines of a table
 module _ {A : Type 0} (row : ℕ → A → List ℕ) (what : ℕ → A) (start distance count : ℕ) (none heads : List ℕ) where
   abbrev table_of : List (List ℕ)
   table_of = table none heads (rows_from row 0 (spaced what start distance count))
 
-  rows_counted : length (rows_from row 0 (spaced what start distance count)) ≡ count
+  pub rows_counted : length (rows_from row 0 (spaced what start distance count)) ≡ count
   rows_counted = length_rows row 0 (spaced what start distance count) ∙ length_spaced what start distance count
 
   table_counted : length table_of ≡ 2 + count
   unfolding table
   table_counted = rw rows_counted (omega arith)
-
-  module _ (index : ℕ) {before after : List ℕ} {at end : ℕ} where
-    pub line_empty : index ≡ 0 → Wrote before at line_end after end → Wrote before at (get_or table_of index []) after end
-    unfolding table
-    line_empty first wrote = rw first wrote
-
-    pub line_none : index ≡ 1 → count ≡ 0 → Wrote before at none after end → Wrote before at (get_or table_of index []) after end
-    unfolding table
-    line_none second no_row wrote = rw (second, rows_counted, eq-eqb count 0 no_row) wrote
-
-    pub line_heads : index ≡ 1 → (count ≡ 0 → ⊥) → Wrote before at heads after end → Wrote before at (get_or table_of index []) after end
-    unfolding table
-    line_heads second some wrote = rw (second, rows_counted, ne_eqb count 0 some) wrote
 
   pub line_row : (index number : ℕ) {before after : List ℕ} {at end : ℕ} → index ≡ 2 + number → number < count →
       Wrote before at (row number (what (start + distance * number))) after end → Wrote before at (get_or table_of index []) after end
@@ -192,12 +193,12 @@ pub record Page (bytes : List ℕ) (found : Summary) : Type 0 where
   pub typed : types_allowed (spaced (memory_at bytes) (56 + 4 * found.cpus) 24 found.memories) ≡ true
   pub measured : length_field bytes ≡ length bytes
 
-pub page : (bytes : List ℕ) (found : Summary) → Accepted found ≡ reading (judged bytes) → Page bytes found
+pub page : (bytes : List ℕ) (found : Summary) → Ok found ≡ reading (judged bytes) → Page bytes found
 unfolding page_lines contents_of
 page bytes found e =
-    let told = accepts bytes found (Accepted found) e refl in
+    let told = accepts bytes found (Ok found) e refl in
     let typed = typed_of bytes (contents_of bytes) told.is_page in
-    let read : reading (judged bytes) ≡ Accepted (summary (contents_of bytes)) = ap reading told.is_page in
+    let read : reading (judged bytes) ≡ Ok (summary (contents_of bytes)) = ap reading told.is_page in
     let same : found ≡ summary (contents_of bytes) = cc in
     let cpus : length (contents_of bytes).cpus ≡ found.cpus = told.cpus_read in
     let memories : length (contents_of bytes).memories ≡ found.memories = told.memories_read in

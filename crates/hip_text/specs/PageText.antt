@@ -1,5 +1,5 @@
 -- The text of an information page, line by line: section 16.9 of the manual.
-use Rattle.std.specs.Prelude.{ℕ, zero, suc, ◌+◌, ◌-◌, ◌≤◌, ◌<◌, ◌≡◌, eqb, ℤ, pos, negsuc, length, take, drop, replicate, if◌then◌else◌}
+use Rattle.std.specs.Prelude.{ℕ, zero, suc, ◌+◌, ◌-◌, ◌≤◌, ◌<◌, ◌≡◌, eqb, ℤ, pos, negsuc, length, take, drop, replicate, if◌then◌else◌, Result, Ok, Err}
 use mathlib.Core.List.{List, [], ◌∷◌, ◌++◌, flatten}
 use Rattle.endian.specs.Parts.{written}
 use Rattle.interface.specs.Journal.{decimal, blank, newline}
@@ -9,8 +9,7 @@ use Rattle.hip_format.specs.declared.Cpu.{Cpu}
 use Rattle.hip_format.specs.declared.Memory.{Memory}
 use Rattle.hip_format.specs.declared.Refusal.{Refusal}
 use Rattle.hip_format.specs.declared.Refusal.TheVariants.{Short, Signature, Length, Layout, Checksum, «Type»}
-use Rattle.hip_format.specs.declared.Reading.{Reading}
-use Rattle.hip_format.specs.declared.Reading.TheVariants.{Refused, Accepted}
+use Rattle.hip_format.specs.declared.Summary.{Summary}
 use Rattle.texts.specs.Texts.{padded, hexadecimal}
 use Rattle.hip_text.specs.declared.Spelled.{Spelled}
 
@@ -155,9 +154,9 @@ unfoldable pub page_lines : List ℕ → List (List ℕ)
 page_lines bytes = lines_of bytes (judged bytes)
 
 -- how many lines there are of what is read: one of a refused page, and otherwise the title, ten fields, two above each table, and the rows
-abbrev pub count_of : Reading → ℕ
-count_of (Refused refusal) = 1
-count_of (Accepted summary) = 15 + summary.cpus + summary.memories
+abbrev pub count_of : Result Summary Refusal → ℕ
+count_of (Err refusal) = 1
+count_of (Ok summary) = 15 + summary.cpus + summary.memories
 
 -- no line has more bytes than this: those of a range, with columns of 5, 18, 20, 10 and 4 bytes, five gaps, a name of 19 and the line end
 abbrev pub line_bytes : ℕ

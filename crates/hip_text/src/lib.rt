@@ -1,17 +1,17 @@
 // An information page as text: a table of its CPUs and one of its memory, below the fields of its header.
 #![tactic(auto)]
 
-ghost use Rattle.std.specs.Prelude.{◌+◌, ◌*◌, ◌^◌, ◌≤◌, ◌<◌, ◌≡◌, true, [], length, get_or};
+ghost use Rattle.std.specs.Prelude.{ℕ, List, ◌+◌, ◌*◌, ◌^◌, ◌≤◌, ◌<◌, ◌≡◌, true, [], length, get_or, Ok};
 ghost use Rattle.endian.specs.Runs.{spaced};
 ghost use Rattle.interface.specs.Journal.{decimal};
 ghost use Rattle.hip_format.specs.Format.{type_allowed};
 ghost use Rattle.hip_format.specs.Reader.{cpu_at, memory_at, types_allowed, judged, reading};
-ghost use Rattle.hip_format.specs.declared.Reading.TheVariants.{Accepted};
 ghost use Rattle.texts.specs.Texts.{Wrote};
-ghost use Rattle.hip_text.specs.PageText.{column, hex, hex_column, refusal_line, title_line, bits_line, number_line, frequency_line, header_lines, cpu_row, cpu_lines, type_end, memory_row, memory_lines, page_lines, count_of, line_bytes, Spells};
+ghost use Rattle.hip_text.specs.PageText.{column, hex, hex_column, refusal_line, title_line, bits_line, number_line, frequency_line, header_lines, table, cpu_row, cpu_lines, type_end, memory_row, memory_lines, page_lines, count_of, line_bytes, Spells};
 
+use endian::Number;
 use hip_format::{
-    CHECKSUM, CPU_SIZE, Cpu, HEADER_SIZE, Header, MEMORY_SIZE, Memory, Reading, Refusal, Summary,
+    CHECKSUM, CPU_SIZE, Cpu, HEADER_SIZE, Header, MEMORY_SIZE, Memory, Refusal, Summary,
 };
 
 // What was written of a page's text: the number of the next line, how many bytes, and how many lines the page has.
@@ -127,7 +127,8 @@ fn put_frequency(out: &mut [u8], at: usize, name: &[u8; 15], value: u32) -> usiz
     texts::put(out, end, b"\n")
 }
 
-// Writes the line of the field of an index. Answers where it ends.
+// Writes the line of the field of an index. Answers where it ends. A line is asked for by its number, so a number chooses the field: a name for each would need these ten arms to be
+// made from it.
 fn put_field(out: &mut [u8], at: usize, header: Header, index: usize) -> usize
     requires line_bytes_in_bounds { at + line_bytes ≤ length out.old }
     requires index_bound { index < 10 }
@@ -161,7 +162,7 @@ fn put_cpu(out: &mut [u8], at: usize, index: usize, cpu: Cpu) -> usize
     texts::put(out, end, b"\n")
 }
 
-// Writes the end of a range's row: its type. Answers where that ends.
+// Writes the end of a range's row: its type. Answers where that ends. Types stand in a page as numbers and are told apart only here: names for them would need these arms too.
 fn put_type(out: &mut [u8], at: usize, kind: i32) -> usize
     requires at_in_bounds { at + 28 ≤ length out.old }
     requires kind_value { type_allowed kind ≡ true }
@@ -191,6 +192,30 @@ fn put_memory(out: &mut [u8], at: usize, index: usize, memory: Memory) -> usize
     put_type(out, type_at, memory.kind)
 }
 
+// Writes a line above the rows of a table: an empty one, or the heads, in whose place it is said where there is no row. Answers where it ends.
+fn put_above(
+    out: &mut [u8],
+    at: usize,
+    index: usize,
+    count: usize,
+    none: &[u8],
+    heads: &[u8],
+) -> usize
+    requires index_bound { index < 2 }
+    requires none_bound { length none.now ≤ line_bytes }
+    requires heads_bound { length heads.now ≤ line_bytes }
+    requires line_bytes_in_bounds { at + line_bytes ≤ length out.old }
+    ensures { (rows : List (List ℕ)) → length rows ≡ count → Wrote out.old at (get_or (table none.now heads.now rows) index []) out.new result }
+{
+    if index == 0 {
+        return texts::put(out, at, b"\n");
+    }
+    if count == 0 {
+        return texts::put(out, at, none);
+    }
+    texts::put(out, at, heads)
+}
+
 // Writes a line of the table of CPUs. Answers where it ends.
 fn put_cpu_line(bytes: &[u8], count: usize, index: usize, out: &mut [u8], at: usize) -> usize
     requires count_in_bounds { 56 + 4 * count ≤ length bytes.now }
@@ -199,14 +224,9 @@ fn put_cpu_line(bytes: &[u8], count: usize, index: usize, out: &mut [u8], at: us
     requires line_bytes_in_bounds { at + line_bytes ≤ length out.old }
     ensures { Wrote out.old at (get_or (cpu_lines (spaced (cpu_at bytes.now) 56 4 count)) index []) out.new result }
 {
-    if index == 0 {
-        return texts::put(out, at, b"\n");
-    }
-    if index == 1 {
-        if count == 0 {
-            return texts::put(out, at, b"no CPU\n");
-        }
-        return texts::put(out, at, b"  CPU  package  core  thread  flags\n");
+    if index < ABOVE_ROWS {
+        let heads = b"  CPU  package  core  thread  flags\n";
+        return put_above(out, at, index, count, b"no CPU\n", heads);
     }
     let row = index - ABOVE_ROWS;
     let cpu = hip_reader::cpu_at(bytes, HEADER_SIZE + CPU_SIZE * row);
@@ -229,18 +249,9 @@ fn put_memory_line(
     requires line_bytes_in_bounds { at + line_bytes ≤ length out.old }
     ensures { Wrote out.old at (get_or (memory_lines (spaced (memory_at bytes.now) start 24 count)) index []) out.new result }
 {
-    if index == 0 {
-        return texts::put(out, at, b"\n");
-    }
-    if index == 1 {
-        if count == 0 {
-            return texts::put(out, at, b"no memory\n");
-        }
-        return texts::put(
-            out,
-            at,
-            b"range             address                  size   auxiliary  type\n",
-        );
+    if index < ABOVE_ROWS {
+        let heads = b"range             address                  size   auxiliary  type\n";
+        return put_above(out, at, index, count, b"no memory\n", heads);
     }
     let row = index - ABOVE_ROWS;
     let memory = hip_reader::memory_at(bytes, start + MEMORY_SIZE * row);
@@ -249,13 +260,13 @@ fn put_memory_line(
 
 // Writes a line of a page that reads as a summary. Answers where it ends.
 fn put_page_line(bytes: &[u8], summary: Summary, index: usize, out: &mut [u8], at: usize) -> usize
-    requires summary_value { Accepted summary ≡ reading (judged bytes.now) }
-    requires index_bound { index < count_of (Accepted summary) }
+    requires summary_value { Ok summary ≡ reading (judged bytes.now) }
+    requires index_bound { index < count_of (Ok summary) }
     requires line_bytes_in_bounds { at + line_bytes ≤ length out.old }
     ensures { Wrote out.old at (get_or (page_lines bytes.now) index []) out.new result }
 {
     if index == 0 {
-        return put_title(out, at, bytes.len() as u32, endian::get16(bytes, CHECKSUM));
+        return put_title(out, at, bytes.len() as u32, u16::get(bytes, CHECKSUM));
     }
     if index <= FIELDS {
         let header = summary.header;
@@ -271,33 +282,38 @@ fn put_page_line(bytes: &[u8], summary: Summary, index: usize, out: &mut [u8], a
 }
 
 // Writes a line of a page that reads as is given. Answers where it ends.
-fn put_line(bytes: &[u8], read_as: Reading, index: usize, out: &mut [u8], at: usize) -> usize
+fn put_line(
+    bytes: &[u8],
+    read_as: Result<Summary, Refusal>,
+    index: usize,
+    out: &mut [u8],
+    at: usize,
+) -> usize
     requires read_as_value { read_as ≡ reading (judged bytes.now) }
     requires index_bound { index < count_of read_as }
     requires line_bytes_in_bounds { at + line_bytes ≤ length out.old }
     ensures { Wrote out.old at (get_or (page_lines bytes.now) index []) out.new result }
 {
     match read_as {
-        Reading::Refused(refusal) => put_refusal(out, at, refusal),
-        Reading::Accepted(summary) => put_page_line(bytes, summary, index, out, at),
+        Err(refusal) => put_refusal(out, at, refusal),
+        Ok(summary) => put_page_line(bytes, summary, index, out, at),
     }
 }
 
 // How many lines a page has that reads as is given.
-fn line_count(bytes: &[u8], read_as: Reading) -> usize
+fn line_count(bytes: &[u8], read_as: Result<Summary, Refusal>) -> usize
     requires { read_as ≡ reading (judged bytes.now) }
     ensures value { result ≡ length (page_lines bytes.now) }
     ensures value_2 { result ≡ count_of read_as }
 {
     match read_as {
-        Reading::Refused(_) => 1,
-        Reading::Accepted(summary) => {
-            1 + FIELDS + ABOVE_ROWS + summary.cpus + ABOVE_ROWS + summary.memories
-        }
+        Err(_) => 1,
+        Ok(summary) => { 1 + FIELDS + ABOVE_ROWS + summary.cpus + ABOVE_ROWS + summary.memories }
     }
 }
 
-// Writes the text of a page, or that of its refusal, from a line on: as many whole lines as fit at the start of the buffer.
+// Writes the text of a page, or that of its refusal, from a line on: as many whole lines as fit at the start of the buffer. The next line is part of the answer, also where `from` is
+// past the last one, so it is counted beside the loop and not by it.
 pub fn spell(bytes: &[u8], from: usize, out: &mut [u8]) -> Spelled
     ensures { Spells (page_lines bytes.now) from out.old out.new result }
 {

@@ -11,6 +11,7 @@ use mir.Val.{of_z, to_z, SFits}
 use mir.Facts.{to_z-of_z}
 use borrow.Author.Tests.{lt-ltb, le-ltb}
 use lib.ListN.{length, take, drop, length-append}
+use Rattle.std.specs.Prelude.{Ok, Err}
 use lib.Seq.{length-take-le, take-append_seam, take_at, drop_at}
 use Rattle.endian.specs.Parts.{written}
 use Rattle.endian.specs.Numbers.{bytes_of}
@@ -18,12 +19,12 @@ use Rattle.endian.specs.Runs.{bytes_of_each, spaced}
 use Rattle.endian.proofs.PartLaws.{written_nothing, written_then}
 use Rattle.endian.proofs.NumberLaws.{length_bytes}
 use Rattle.endian.proofs.RunLaws.{length_spaced, spaced_more, length_each, item_more}
-use Rattle.hip_format.specs.Format.{signature, header_size, cpu_size, memory_size, type_allowed, Contents, fields, cpu_bytes, memory_bytes, memory_start, page_length, page_with, word_sum, complement, checksum_of, page}
+use Rattle.hip_format.specs.Format.{signature, header_size, cpu_size, memory_size, Contents, fields, cpu_bytes, memory_bytes, memory_start, page_length, page_with, word_sum, complement, checksum_of, page}
 use Rattle.hip_format.specs.Reader.{cpu_at, types_allowed}
 use Rattle.hip_format.specs.Writer.{memory_given, shortest, given, writing}
 use Rattle.hip_format.specs.declared.Header.{Header}
 use Rattle.hip_format.specs.declared.Memory.{Memory}
-use Rattle.hip_format.specs.declared.Written.TheVariants.{Done, «Type», Large, Room}
+use Rattle.hip_format.specs.declared.WriteRefusal.TheVariants.{«Type», Large, Room}
 use Rattle.hip_format.proofs.FieldLaws.{length_memory}
 use Rattle.hip_format.proofs.GivenLaws.{whole_cpus}
 use Rattle.hip_format.proofs.PageLaws.{length_page}
@@ -33,9 +34,6 @@ use Rattle.hip_format.proofs.WriteLaws.{length_whole, written_good}
 -- a type that was stored and taken by its bits
 pub kind_bits : (kind : ℤ) (bits : ℕ) → SFits w32 kind → bits ≡ of_z w32 (to_z w32 (of_z w32 kind)) → bits ≡ of_z w32 kind
 kind_bits kind bits fits e = e ∙ ap (of_z w32) (to_z-of_z {w = w32} {z = kind} fits)
-
-pub kind_tested : (kind : ℤ) (bits : ℕ) (allowed : Bool) → SFits w32 kind → bits ≡ of_z w32 (to_z w32 (of_z w32 kind)) → allowed ≡ type_allowed (to_z w32 bits) → allowed ≡ type_allowed kind
-kind_tested kind bits allowed fits e tested = tested ∙ ap type_allowed (ap (to_z w32) (kind_bits kind bits fits e) ∙ to_z-of_z {w = w32} {z = kind} fits)
 
 -- two runs of bytes written one after the other
 then : (list one two : List ℕ) (at next : ℕ) (first second : List ℕ) → at ≤ length list → next ≡ at + length first → one ≡ written list at first → two ≡ written one next second →
@@ -202,23 +200,23 @@ module _ (header : Header) (cpus addresses sizes : List ℕ) (kinds : List ℤ) 
     unfolding given
     allowed = tested addresses sizes auxiliaries ∙ ap (λ (n : ℕ). types_allowed (spaced (memory_given addresses sizes kinds auxiliaries) 0 1 n)) counted
 
-    pub answers_type : are_allowed ≡ false → record { answer = «Type»; buffer = buffer } ≡ writing contents buffer
+    pub answers_type : are_allowed ≡ false → record { answer = Err «Type»; buffer = buffer } ≡ writing contents buffer
     unfolding writing
     answers_type f = rw (sym allowed ∙ f)
 
     module _ (t : are_allowed ≡ true) where
-      pub answers_large : 65535 < 56 + 4 * (length cpus / 4) + 24 * memory_count_lem → record { answer = Large; buffer = buffer } ≡ writing contents buffer
+      pub answers_large : 65535 < 56 + 4 * (length cpus / 4) + 24 * memory_count_lem → record { answer = Err Large; buffer = buffer } ≡ writing contents buffer
       unfolding writing
       answers_large large = rw (sym allowed ∙ t, lt-ltb 65535 (page_length contents) (omega (arith, given_length)))
 
       pub answers_room : 56 + 4 * (length cpus / 4) + 24 * memory_count_lem ≤ 65535 → length buffer < 56 + 4 * (length cpus / 4) + 24 * memory_count_lem →
-          record { answer = Room; buffer = buffer } ≡ writing contents buffer
+          record { answer = Err Room; buffer = buffer } ≡ writing contents buffer
       unfolding writing
       answers_room small short =
           rw (sym allowed ∙ t, le-ltb 65535 (page_length contents) (omega (arith, given_length)), lt-ltb (length buffer) (page_length contents) (omega (arith, given_length)))
 
       pub answers_done : (size : ℕ) (after_page : List ℕ) → 56 + 4 * (length cpus / 4) + 24 * memory_count_lem ≤ 65535 → 56 + 4 * (length cpus / 4) + 24 * memory_count_lem ≤ length buffer →
-          size ≡ 56 + 4 * (length cpus / 4) + 24 * memory_count_lem → after_page ≡ written buffer 0 (page contents) → record { answer = Done size; buffer = after_page } ≡ writing contents buffer
+          size ≡ 56 + 4 * (length cpus / 4) + 24 * memory_count_lem → after_page ≡ written buffer 0 (page contents) → record { answer = Ok size; buffer = after_page } ≡ writing contents buffer
       answers_done size after_page small room ez e =
           let long : size ≡ page_length contents = omega (arith, given_length) in
           let good = written_good contents buffer (sym allowed ∙ t) (omega (arith, given_length)) (omega (arith, given_length)) in

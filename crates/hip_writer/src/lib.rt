@@ -1,7 +1,8 @@
 // Writing an information page into a lent buffer.
 #![tactic(auto)]
 
-ghost use Rattle.std.specs.Prelude.{ℕ, ◌+◌, ◌*◌, ◌/◌, ◌≤◌, min, ◌≡◌, List, [], ◌∷◌, ◌++◌, length, take};
+ghost use Rattle.std.specs.Prelude.{ℕ, ◌+◌, ◌*◌, ◌/◌, ◌≤◌, ◌≡◌, List, [], ◌∷◌, ◌++◌, length, take, FitsSigned};
+ghost use Rattle.std.specs.Int.{w32};
 ghost use Rattle.endian.specs.Parts.{written};
 ghost use Rattle.endian.specs.Numbers.{bytes_of};
 ghost use Rattle.endian.specs.Runs.{bytes_of_each, spaced};
@@ -9,9 +10,10 @@ ghost use Rattle.hip_format.specs.Format.{signature, header_size, cpu_size, memo
 ghost use Rattle.hip_format.specs.Reader.{types_allowed};
 ghost use Rattle.hip_format.specs.Writer.{memory_given, shortest, given, writing};
 
+use endian::{Number, put_all, put_bytes};
 use hip_format::{
-    CHECKSUM, CPU_SIZE, FIELDS, GREATEST_LENGTH, HEADER_SIZE, Header, MEMORY_SIZE, SIGNATURE,
-    Written,
+    CHECKSUM, CPU_SIZE, FIELDS, GREATEST_LENGTH, HEADER_SIZE, Header, MEMORY_SIZE, Memory,
+    SIGNATURE, WriteRefusal,
 };
 
 // More descriptors than these make a page that is too long, whatever else it holds.
@@ -19,24 +21,14 @@ const MOST_CPUS: usize = (GREATEST_LENGTH - HEADER_SIZE) / CPU_SIZE;
 
 const MOST_MEMORIES: usize = (GREATEST_LENGTH - HEADER_SIZE) / MEMORY_SIZE;
 
-// The smaller of two numbers.
-fn least(a: usize, b: usize) -> usize
-    ensures { result ≡ min a b }
-{
-    if a < b {
-        return a;
-    }
-    b
-}
-
-// How many memory descriptors four lists have.
+// How many memory descriptors four lists have: `rudozhev_hip_write` is passed them so, each as a pointer and a length.
 fn count_of(addresses: &[u64], sizes: &[u64], kinds: &[i32], auxiliaries: &[u32]) -> usize
     ensures { result ≡ shortest addresses.now sizes.now kinds.now auxiliaries.now }
 {
-    least(
-        least(addresses.len(), sizes.len()),
-        least(kinds.len(), auxiliaries.len()),
-    )
+    addresses
+        .len()
+        .min(sizes.len())
+        .min(kinds.len().min(auxiliaries.len()))
 }
 
 // Whether each of the first types is allowed, whatever the other numbers of the descriptors are.
@@ -44,14 +36,9 @@ fn are_allowed(kinds: &[i32], count: usize) -> bool
     requires { count ≤ length kinds.now }
     ensures { (addresses sizes auxiliaries : List ℕ) → result ≡ types_allowed (spaced (memory_given addresses sizes kinds.now auxiliaries) 0 1 count) }
 {
-    let mut i: usize = 0;
-    while i < count {
-        if !hip_format::is_allowed(endian::to_bits(kinds[i])) {
-            return false;
-        }
-        i += 1;
-    }
-    true
+    kinds[..count]
+        .iter()
+        .all(|kind| hip_format::is_allowed(kind.cast_unsigned()))
 }
 
 // Writes the header of a page with checksum 0.
@@ -61,7 +48,7 @@ fn put_header(buffer: &mut [u8], header: Header, size: u16, start: u16)
         written buffer.old 0
         (signature ++ bytes_of_each (bytes_of 2) (0 ∷ size ∷ header_size ∷ cpu_size ∷ start ∷ memory_size ∷ []) ++ bytes_of_each (bytes_of 4) (fields header)) }
 {
-    endian::put_bytes(buffer, 0, &SIGNATURE);
+    put_bytes(buffer, 0, &SIGNATURE);
     let short_fields = [
         0u16,
         size,
@@ -70,21 +57,21 @@ fn put_header(buffer: &mut [u8], header: Header, size: u16, start: u16)
         start,
         MEMORY_SIZE as u16,
     ];
-    endian::put16s(buffer, CHECKSUM, &short_fields);
+    put_all(buffer, CHECKSUM, &short_fields);
     let long_fields = header.fields();
-    endian::put32s(buffer, FIELDS, &long_fields);
+    put_all(buffer, FIELDS, &long_fields);
 }
 
 // Writes a memory descriptor at a place.
-fn put_memory(buffer: &mut [u8], at: usize, address: u64, size: u64, kind: i32, auxiliary: u32)
-    requires { at + memory_size ≤ length buffer.old }
-    ensures { buffer.new ≡
-        written buffer.old at (memory_bytes (record { address = address; size = size; kind = kind; auxiliary = auxiliary })) }
+fn put_memory(buffer: &mut [u8], at: usize, memory: Memory)
+    requires room { at + memory_size ≤ length buffer.old }
+    requires kind_fits { FitsSigned w32 memory.kind }
+    ensures { buffer.new ≡ written buffer.old at (memory_bytes memory) }
 {
-    endian::put64(buffer, at, address);
-    endian::put64(buffer, at + 8, size);
-    endian::put32(buffer, at + 16, endian::to_bits(kind));
-    endian::put32(buffer, at + 20, auxiliary);
+    memory.address.put(buffer, at);
+    memory.size.put(buffer, at + 8);
+    memory.kind.cast_unsigned().put(buffer, at + 16);
+    memory.auxiliary.put(buffer, at + 20);
 }
 
 // Writes the memory descriptors of four lists from a place on.
@@ -103,17 +90,14 @@ fn put_memories(
         written buffer.old at
         (bytes_of_each memory_bytes (spaced (memory_given addresses.now sizes.now kinds.now auxiliaries.now) 0 1 count)) }
 {
-    let mut i: usize = 0;
-    while i < count {
-        put_memory(
-            buffer,
-            at + MEMORY_SIZE * i,
-            addresses[i],
-            sizes[i],
-            kinds[i],
-            auxiliaries[i],
-        );
-        i += 1;
+    for i in 0..count {
+        let memory = Memory {
+            address: addresses[i],
+            size: sizes[i],
+            kind: kinds[i],
+            auxiliary: auxiliaries[i],
+        };
+        put_memory(buffer, at + MEMORY_SIZE * i, memory);
     }
 }
 
@@ -122,8 +106,8 @@ fn put_checksum(buffer: &mut [u8], size: usize)
     requires { (header_size ≤ size) × (size ≤ length buffer.old) }
     ensures { buffer.new ≡ written buffer.old 4 (bytes_of 2 (complement (word_sum (take size buffer.old)))) }
 {
-    let sum = hip_format::word_sum(&buffer[..size]) as u32;
-    endian::put16(buffer, CHECKSUM, ((65536 - sum) % 65536) as u16);
+    let sum = hip_format::word_sum(&buffer[..size]);
+    sum.wrapping_neg().put(buffer, CHECKSUM);
 }
 
 // Writes a page at the start of a buffer that has room for it.
@@ -149,7 +133,7 @@ fn put_page(
     let size = start + MEMORY_SIZE * count;
     put_header(buffer, header, size as u16, start as u16);
     let cpu_bytes = start - HEADER_SIZE;
-    endian::put_bytes(buffer, HEADER_SIZE, &cpus[..cpu_bytes]);
+    put_bytes(buffer, HEADER_SIZE, &cpus[..cpu_bytes]);
     put_memories(buffer, start, addresses, sizes, kinds, auxiliaries, count);
     put_checksum(buffer, size);
     size
@@ -165,28 +149,28 @@ pub fn write(
     kinds: &[i32],
     auxiliaries: &[u32],
     buffer: &mut [u8],
-) -> Written
+) -> Result<usize, WriteRefusal>
     ensures { record { answer = result; buffer = buffer.new } ≡
         writing (given header cpus.now addresses.now sizes.now kinds.now auxiliaries.now) buffer.old }
 {
     let memories = count_of(addresses, sizes, kinds, auxiliaries);
     if !are_allowed(kinds, memories) {
-        return Written::Type;
+        return Err(WriteRefusal::Type);
     }
     let whole_cpus = cpus.len() / CPU_SIZE;
     if MOST_CPUS < whole_cpus {
-        return Written::Large;
+        return Err(WriteRefusal::Large);
     }
     if MOST_MEMORIES < memories {
-        return Written::Large;
+        return Err(WriteRefusal::Large);
     }
     let start = HEADER_SIZE + CPU_SIZE * whole_cpus;
     let size = start + MEMORY_SIZE * memories;
     if GREATEST_LENGTH < size {
-        return Written::Large;
+        return Err(WriteRefusal::Large);
     }
     if buffer.len() < size {
-        return Written::Room;
+        return Err(WriteRefusal::Room);
     }
     let done = put_page(
         buffer,
@@ -199,5 +183,5 @@ pub fn write(
         start,
         memories,
     );
-    Written::Done(done)
+    Ok(done)
 }

@@ -1,6 +1,7 @@
 -- Where the first and the last place of a stretch of domain 0 are as at boot and each word rises by steps of at most one, the places in between are as at boot too.
-use Rattle.std.proofs.Common.{◌≡◌, ℕ, zero, suc, ◌+◌, ◌-◌, ◌*◌, ◌/◌, ◌%◌, ◌^◌, ◌<◌, ◌≤◌, Bool, true, false, not, ◌&&◌, eqb, ltb, leb, List, sym, refl, ap, ◌∙◌, add-zero, arith, ltb-false, ltb-true, eq-eqb, eqb-true, le-leb, leb-true}
-use borrow.Author.Tests.{eqb-false, not-true, not-false}
+use Rattle.std.proofs.Common.{◌≡◌, ℕ, zero, suc, ◌+◌, ◌-◌, ◌*◌, ◌/◌, ◌%◌, ◌^◌, ◌<◌, ◌≤◌, Bool, true, false, ◌&&◌, eqb, ltb, leb, List, sym, refl, ap, ◌∙◌, add-zero, arith, ltb-false, ltb-true, eq-eqb, eqb-true, le-leb, leb-true}
+use mathlib.Core.Path.{fun_ext}
+use borrow.Author.Tests.{eqb-false}
 use Rattle.words.specs.Sizes.{domain_of, place_words}
 use Rattle.interface.specs.Basics.{word, all_below}
 use Rattle.interface.specs.Places.{Cap, cap_at, parentless, places_in}
@@ -8,7 +9,6 @@ use Rattle.interface.specs.Boot.{hypervisor, boot_cap}
 use Rattle.interface.specs.Damage.{fixed_place}
 use Rattle.interface.proofs.Basics.BoolLaws.{cases, same_test, not_both, and_left, and_right, both, or_left, or_right}
 use Rattle.interface.proofs.Basics.BelowLaws.{all_below_at, all_below_lem}
-use Rattle.interface.proofs.Basics.LoopLaws.{answered_yes, answered_no}
 use Rattle.interface.proofs.Sound.PlaceFacts.{boot_cap_lem}
 use Rattle.hypervisor_rules.specs.HypervisorKeeping.{steps, is_step, rising, Stretch}
 use Rattle.place_rules.proofs.PlaceTests.{fixed_same}
@@ -39,6 +39,22 @@ module _ (before after : ℕ) where
       (λ (t : is_step before after ≡ true).
       le-leb step 1
       (step_told t (λ (same : after ≡ before). omega arith) (λ (next : after ≡ (before + 1) % 2 ^ 32). omega arith)))
+
+-- the same of a number that may be no word
+pub step_any : (before after step : ℕ) → step < 2 ^ 32 → (step + before) % 2 ^ 32 ≡ after → leb step 1 ≡ is_step (before % 2 ^ 32) after
+step_any before after step few e = step_so (before % 2 ^ 32) after step (omega arith) few (omega arith)
+
+pub words_step : (words : List ℕ) (start count : ℕ) → ((i : ℕ) → word words i < 2 ^ 32) →
+    all_below count (λ i. is_step (word words (start + i) % 2 ^ 32) (word words (start + place_words + i))) ≡
+    all_below count (λ i. is_step (word words (start + i)) (word words (start + i + place_words)))
+words_step words start count small =
+    ap (all_below count)
+    (fun_ext
+    (λ i.
+    let few : word words (start + i) < 2 ^ 32 = small (start + i) in
+    let same : word words (start + i) % 2 ^ 32 ≡ word words (start + i) = omega arith in
+    let there : start + place_words + i ≡ start + i + place_words = omega arith in
+    rw (same, there)))
 
 -- a number that changes by steps up to an end, and does not come to the greatest word
 module _ (f : ℕ → ℕ) (n : ℕ) (stepwise : (j : ℕ) → j < n → is_step (f j) (f (suc j)) ≡ true) (small : f 0 + n < 2 ^ 32) where
@@ -94,34 +110,39 @@ module _ (table : List ℕ) where
       all_below_lem (place_words * count) (λ j. step_at (place_words * first + j)) (λ j l. h (place_words * first + j) (omega arith) (omega arith))
 
   module _ (first : ℕ) where
-    pub steps_none : Steps first first
-    steps_none i from before = absurd (omega arith)
-
     steps_on : (at end : ℕ) → Steps first at → Steps at end → Steps first end
     steps_on at end before after i from l =
         cases (ltb i (place_words * at)) (λ (t : ltb i (place_words * at) ≡ true). before i from (ltb-true i (place_words * at) t))
         (λ (f : ltb i (place_words * at) ≡ false). after i (ltb-false i (place_words * at) f) l)
 
-    pub steps_more : (at : ℕ) (answer : Bool) → Steps first at → answer ≡ rising table at steps → not answer ≡ false → Steps first (at + steps)
-    steps_more at answer before asked f = steps_on at (at + steps) before (rising_steps at steps (answered_yes answer (rising table at steps) asked f))
+    -- so many looks, one after the other
+    abbrev looks : ℕ → Bool
+    looks k = rising table (first + steps * k) steps
 
-    pub steps_broken : (last at : ℕ) (answer : Bool) → first ≤ at → at + steps ≤ last → answer ≡ rising table at steps → not answer ≡ true →
-        false ≡ rising table first (last - first)
-    steps_broken last at answer from within asked f =
+    looks_steps : (n : ℕ) → all_below n looks ≡ true → Steps first (first + steps * n)
+    looks_steps n h i from before =
+        let k = (i - place_words * first) / (place_words * steps) in
+        rising_steps (first + steps * k) steps (all_below_at n looks h k (omega arith)) i (omega arith) (omega arith)
+
+    pub looks_broken : (last n : ℕ) (answer : Bool) → first + steps * n ≤ last → answer ≡ all_below n looks → answer ≡ false → answer ≡ rising table first (last - first)
+    looks_broken last n answer within asked f =
         cases (rising table first (last - first))
         (λ (t : rising table first (last - first) ≡ true).
-        answered_no answer (rising table at steps) asked f
-        (steps_rising at steps (λ i past l. rising_steps first (last - first) t i (omega arith) (omega arith))))
-        (λ (g : rising table first (last - first) ≡ false). sym g)
+        not_both (all_below n looks)
+        (all_below_lem n looks
+        (λ k l. steps_rising (first + steps * k) steps (λ i past b. rising_steps first (last - first) t i (omega arith) (omega arith))))
+        (sym asked ∙ f))
+        (λ (g : rising table first (last - first) ≡ false). f ∙ sym g)
 
-    pub steps_done : (last at : ℕ) (answer : Bool) → first + steps ≤ last → last ≤ at + steps → Steps first at → answer ≡ rising table (last - steps) steps →
-        answer ≡ rising table first (last - first)
-    steps_done last at answer long late before asked =
+    pub looks_done : (last n : ℕ) (looked answer : Bool) → first + steps ≤ last → last ≤ first + steps * n + steps → looked ≡ all_below n looks → looked ≡ true →
+        answer ≡ rising table (last - steps) steps → answer ≡ rising table first (last - first)
+    looks_done last n looked answer long late is_looked t asked =
+        let before = looks_steps n (sym is_looked ∙ t) in
         asked ∙
         same_test (rising table (last - steps) steps) (rising table first (last - first))
         (λ (t : rising table (last - steps) steps ≡ true).
         let after = rising_steps (last - steps) steps t in
-        steps_rising first (last - first) (λ i from l. steps_on at last before (λ j past b. after j (omega arith) (omega arith)) i from (omega arith)))
+        steps_rising first (last - first) (λ i from l. steps_on (first + steps * n) last before (λ j past b. after j (omega arith) (omega arith)) i from (omega arith)))
         (λ (t : rising table first (last - first) ≡ true).
         steps_rising (last - steps) steps (λ i from l. rising_steps first (last - first) t i (omega arith) (omega arith)))
 
@@ -222,23 +243,22 @@ module _ (table : List ℕ) {first last : ℕ} (stretch : Stretch first last) wh
         λ i. record { resource = resource_there i; permissions = permissions i; parent = parent i; depth = depth i }
 
   -- the answers
-  pub ends_broken : (at_first at_last : Bool) → at_first ≡ fixed first → at_last ≡ fixed last → not (at_first && at_last) ≡ true → false ≡ all_below (last + 1) fixed
+  pub ends_broken : (at_first at_last : Bool) → at_first ≡ fixed first → at_last ≡ fixed last → (at_first && at_last) ≡ false → (at_first && at_last) ≡ all_below (last + 1) fixed
   ends_broken at_first at_last e f broken =
       let far = stretch.long in
       cases (all_below (last + 1) fixed)
       (λ (t : all_below (last + 1) fixed ≡ true).
       not_both (at_first && at_last)
       (both at_first at_last (e ∙ all_below_at (last + 1) fixed t first (omega arith)) (f ∙ all_below_at (last + 1) fixed t last (omega arith)))
-      (not-true (at_first && at_last) broken))
-      (λ (g : all_below (last + 1) fixed ≡ false). sym g)
+      broken)
+      (λ (g : all_below (last + 1) fixed ≡ false). broken ∙ sym g)
 
-  pub stretch_decides : (at_first at_last answer : Bool) → at_first ≡ fixed first → at_last ≡ fixed last → not (at_first && at_last) ≡ false →
+  pub stretch_decides : (at_first at_last answer : Bool) → at_first ≡ fixed first → at_last ≡ fixed last → (at_first && at_last) ≡ true →
       all_below first fixed ≡ true → answer ≡ rising table first (last - first) → answer ≡ all_below (last + 1) fixed
   stretch_decides at_first at_last answer e f kept before asked =
       let far = stretch.long in
-      let ends = not-false (at_first && at_last) kept in
-      let starts : cap_at table first ≡ expected first = fixed_held first (omega arith) (omega arith) (sym e ∙ and_left at_first at_last ends) in
-      let stops : cap_at table last ≡ expected last = fixed_held last (omega arith) (omega arith) (sym f ∙ and_right at_first at_last ends) in
+      let starts : cap_at table first ≡ expected first = fixed_held first (omega arith) (omega arith) (sym e ∙ and_left at_first at_last kept) in
+      let stops : cap_at table last ≡ expected last = fixed_held last (omega arith) (omega arith) (sym f ∙ and_right at_first at_last kept) in
       asked ∙
       same_test (rising table first (last - first)) (all_below (last + 1) fixed)
       (λ (t : rising table first (last - first) ≡ true).

@@ -22,21 +22,21 @@ const LEFT_NULL: u32 = sizes::STRIDE - INTERRUPTS_END;
 // The places of a stretch of domain 0 are held each against the one before it, so many at a time.
 const STEPS: u32 = 9;
 
-// Whether each word of so many places after one is that of the place before it or one more.
+// Whether each word of so many places after one is that of the place before it or one more. Each is looked at, without leaving early, so that the compiler makes vector code.
 fn are_steps(table: &[u32], first: u32) -> bool
     requires { (length table.now ≡ place_table_words) × (first + steps < places) }
     ensures { result ≡ rising table.now first steps }
 {
     let start = sizes::PLACE_WORDS * (first as usize);
+    let next = start + sizes::PLACE_WORDS;
     let words = sizes::PLACE_WORDS * (STEPS as usize);
-    let mut rising = true;
-    let mut i: usize = 0;
-    while i < words {
-        rising = rising
-            & (num::wrapping_sub_u32(table[start + i + sizes::PLACE_WORDS], table[start + i]) <= 1);
-        i += 1;
-    }
-    rising
+    table[start..start + words]
+        .iter()
+        .zip(table[next..next + words].iter())
+        .fold(
+            true,
+            |rising, (&before, &after)| rising & (num::wrapping_sub_u32(after, before) <= 1),
+        )
 }
 
 // Whether each word of the places after one is, up to another. The last look may go over places that were looked at before.
@@ -44,14 +44,8 @@ fn rises(table: &[u32], first: u32, last: u32) -> bool
     requires { (length table.now ≡ place_table_words) × (first + steps ≤ last) × (last < places) }
     ensures { result ≡ rising table.now first (last - first) }
 {
-    let mut at: u32 = first;
-    while at + STEPS < last {
-        if !are_steps(table, at) {
-            return false;
-        }
-        at += STEPS;
-    }
-    are_steps(table, last - STEPS)
+    (0..(last - first - 1) / STEPS).all(|look| are_steps(table, first + STEPS * look))
+        && are_steps(table, last - STEPS)
 }
 
 // Whether the places up to the last of a stretch are as at boot, where those before its first are. Where its first and last place are, and words rise by at most one from each
@@ -60,10 +54,8 @@ fn stretch_keeps(table: &[u32], first: u32, last: u32) -> bool
     requires { (length table.now ≡ place_table_words) × Stretch first last × (all_below first (fixed_place (places_in table.now)) ≡ true) }
     ensures { result ≡ all_below (last + 1) (fixed_place (places_in table.now)) }
 {
-    if !(place_rules::fixed_keeps(table, first) & place_rules::fixed_keeps(table, last)) {
-        return false;
-    }
-    rises(table, first, last)
+    (place_rules::fixed_keeps(table, first) & place_rules::fixed_keeps(table, last))
+        && rises(table, first, last)
 }
 
 // Whether the places up to the last idle SC of domain 0 are as at boot, where those before the first are.
@@ -71,13 +63,7 @@ fn idle_keep(table: &[u32]) -> bool
     requires { (length table.now ≡ place_table_words) × (all_below (start object) (fixed_place (places_in table.now)) ≡ true) }
     ensures { result ≡ all_below (start object + cpus) (fixed_place (places_in table.now)) }
 {
-    let mut fixed = true;
-    let mut at: u32 = sizes::OBJECT_START;
-    while at < IDLE_END {
-        fixed = fixed & place_rules::fixed_keeps(table, at);
-        at += 1;
-    }
-    fixed
+    (sizes::OBJECT_START..IDLE_END).all(|at| place_rules::fixed_keeps(table, at))
 }
 
 // Whether each place of domain 0 is as at boot: its pages, its ports, its idle SCs and its interrupts in turn, and then null places.
@@ -85,17 +71,9 @@ pub fn hypervisor_keeps(table: &[u32]) -> bool
     requires { length table.now ≡ place_table_words }
     ensures { result ≡ all_below stride (fixed_place (places_in table.now)) }
 {
-    if !stretch_keeps(table, 0, sizes::IO_START - 1) {
-        return false;
-    }
-    if !stretch_keeps(table, sizes::IO_START, sizes::OBJECT_START - 1) {
-        return false;
-    }
-    if !idle_keep(table) {
-        return false;
-    }
-    if !stretch_keeps(table, IDLE_END, INTERRUPTS_END - 1) {
-        return false;
-    }
-    place_rules::is_blank(table, INTERRUPTS_END, LEFT_NULL)
+    stretch_keeps(table, 0, sizes::IO_START - 1)
+        && stretch_keeps(table, sizes::IO_START, sizes::OBJECT_START - 1)
+        && idle_keep(table)
+        && stretch_keeps(table, IDLE_END, INTERRUPTS_END - 1)
+        && place_rules::is_blank(table, INTERRUPTS_END, LEFT_NULL)
 }

@@ -1,168 +1,104 @@
-// Writes to standard output, in words, what the story is told with: domains and things by name, the replies of the calls, ranges, selectors and places. Std says nothing of
-// what is written, and so no contract does.
+// Writes to standard output, in words, what the story is told with: the replies of the calls, ranges, selectors and places. Std says nothing of what is written, and so no
+// contract does.
 ghost use Rattle.descriptor.specs.Descriptors.{Proper};
 
-use crate::spectrometer;
+use crate::spectrometer::Domain;
 use descriptor::{Descriptor, Range, Reading};
-use layout::{FoundPlace, Place};
+use layout::Place;
 use reply::Reply;
-use std::io::Stdout;
+use std::fmt;
+use std::fmt::Display;
+use std::io::{Stdout, Write};
 use words::{ranges, sizes};
 
-// Writes a phrase.
-pub(crate) fn say(out: Stdout, phrase: &[u8]) {
-    let _ = out.write_all(phrase);
+// So many of a thing.
+#[derive(Clone, Copy)]
+struct Counted {
+    count: u32,
+    thing: &'static str,
 }
 
-// Writes a number.
-fn say_number(out: Stdout, value: u32) {
-    let _ = out.print(value);
-}
-
-// Writes how many there are of a thing.
-fn say_counted(out: Stdout, count: u32, thing: &[u8]) {
-    say_number(out, count);
-    say(out, thing);
-    if count != 1 {
-        say(out, b"s");
+impl Display for Counted {
+    fn fmt<W: fmt::Write>(&self, f: &mut fmt::Formatter<W>) -> fmt::Result {
+        let plural = if self.count == 1 { "" } else { "s" };
+        write!(f, "{} {}{plural}", self.count, self.thing)
     }
 }
 
-// Writes what a domain is called.
-fn say_name(out: Stdout, domain: u32) {
-    match domain {
-        spectrometer::HYPERVISOR => say(out, b"hypervisor"),
-        spectrometer::ROOT => say(out, b"root"),
-        spectrometer::OPERATING => say(out, b"operating"),
-        spectrometer::SERVICE => say(out, b"service"),
-        spectrometer::TEST => say(out, b"test"),
-        spectrometer::SPARE => say(out, b"spare"),
-        _ => say(out, b"UNKNOWN"),
+// A selector of a space.
+#[derive(Clone, Copy)]
+struct Position {
+    space: u32,
+    number: u32,
+}
+
+impl Display for Position {
+    fn fmt<W: fmt::Write>(&self, f: &mut fmt::Formatter<W>) -> fmt::Result {
+        let space = match self.space {
+            sizes::MEMORY => "memory",
+            sizes::IO => "I/O",
+            _ => "object",
+        };
+        write!(f, "{space} selector {}", self.number)
     }
 }
 
-// Writes a domain as a sentence has it: the root needs no further word.
-fn say_domain(out: Stdout, domain: u32) {
-    say_name(out, domain);
-    if domain != spectrometer::ROOT {
-        say(out, b" domain");
-    }
+// Writes a text.
+pub(crate) fn say<D: Display + Drop>(mut out: Stdout, text: D) {
+    let _ = out.write_fmt(text);
 }
 
-// Writes what the story calls a thing.
-fn say_thing(out: Stdout, thing: u32) {
-    match thing {
-        spectrometer::SHUTTER => say(out, b"the shutter's ports"),
-        spectrometer::LAMP => say(out, b"the lamp's port"),
-        spectrometer::SPECTRUM => say(out, b"the spectrum's page"),
-        spectrometer::THEM => say(out, b"them"),
-        _ => say(out, b"it"),
-    }
-}
-
-// Begins a sentence with a domain and what it does.
-pub(crate) fn say_act(out: Stdout, domain: u32, act: &[u8]) {
-    say(out, b"The ");
-    say_domain(out, domain);
-    say(out, act);
-}
-
-// Begins a sentence with a domain, what it does and to which thing.
-pub(crate) fn say_deed(out: Stdout, domain: u32, act: &[u8], thing: u32) {
-    say_act(out, domain, act);
-    say_thing(out, thing);
-}
-
-// Goes on with a sentence, up to a domain.
-pub(crate) fn say_to(out: Stdout, words: &[u8], domain: u32) {
-    say(out, words);
-    say(out, b" the ");
-    say_domain(out, domain);
-    say(out, b": ");
+// Begins a line with a selector of a space.
+pub(crate) fn say_selector(out: Stdout, space: u32, number: u32) {
+    say(out, format_args!("{}: ", Position { space, number }));
 }
 
 // Ends a line with whether a call was done, or else the status of its refusal.
 pub(crate) fn say_done(out: Stdout, reply: Reply) {
-    if let Reply::Success(_) = reply {
-        say(out, b"done\n");
+    if reply.is_ok() {
+        say(out, "done\n");
         return;
     }
-    say(out, b"REFUSED with status ");
-    say_number(out, reply.status());
-    say(out, b"\n");
-}
-
-// Goes on with how often a call was refused.
-pub(crate) fn say_refused(out: Stdout, count: u32, times: u32) {
-    say(out, b"REFUSED ");
-    say_number(out, count);
-    say(out, b" times of ");
-    say_number(out, times);
-}
-
-// Ends a line with whether the tables are as they were.
-pub(crate) fn say_kept(out: Stdout, kept: bool) {
-    if kept {
-        say(out, b", and no word of the tables changed\n");
-        return;
-    }
-    say(out, b", and THE TABLES CHANGED\n");
+    say(
+        out,
+        format_args!("REFUSED with status {}\n", reply::status(reply)),
+    );
 }
 
 // Ends a line with how many places a call answers with, and what they are.
-pub(crate) fn say_places(out: Stdout, reply: Reply, what: &[u8]) {
-    if let Reply::Success(count) = reply {
-        say_counted(out, count, b" place");
-        say(out, what);
+pub(crate) fn say_places(out: Stdout, reply: Reply, what: &str) {
+    if let Ok(count) = reply {
+        let places = Counted {
+            count,
+            thing: "place",
+        };
+        say(out, format_args!("{places}{what}\n"));
     } else {
         say_done(out, reply);
     }
 }
 
-// Writes a selector of a space.
-pub(crate) fn say_selector(out: Stdout, space: u32, selector: u32) {
-    match space {
-        sizes::MEMORY => say(out, b"memory selector "),
-        sizes::IO => say(out, b"I/O selector "),
-        _ => say(out, b"object selector "),
-    }
-    say_number(out, selector);
-}
-
 // Writes where a place is: its domain, space and selector.
 pub(crate) fn say_place(out: Stdout, word: u32) {
-    let FoundPlace::At(place) = Place::found(word) else {
-        say(out, b"NO PLACE");
+    let Some(place) = Place::found(word) else {
+        say(out, "NO PLACE");
         return;
     };
-    say(out, b"domain ");
-    say_number(out, place.domain());
-    say(out, b" (");
-    say_name(out, place.domain());
-    say(out, b"), ");
-    say_selector(out, place.space(), place.selector().number());
+    let number = place.domain();
+    let name = Domain::numbered(number).map_or("UNKNOWN", |domain| domain.name());
+    let selector = Position {
+        space: place.space(),
+        number: place.selector().number(),
+    };
+    say(out, format_args!("domain {number} ({name}), {selector}"));
 }
 
 // Writes the first places of a list, one a line.
 pub(crate) fn say_list(out: Stdout, list: &[u32], count: u32) {
-    let mut i: usize = 0;
-    while i < list.len() {
-        if i >= count as usize {
-            return;
-        }
-        say(out, b"  ");
-        say_place(out, list[i]);
-        say(out, b"\n");
-        i += 1;
-    }
-}
-
-// Writes how many resources of a space there are.
-fn say_resources(out: Stdout, space: u32, count: u32) {
-    match space {
-        sizes::MEMORY => say_counted(out, count, b" page"),
-        sizes::IO => say_counted(out, count, b" port"),
-        _ => say_counted(out, count, b" object"),
+    for &word in list.iter().take(count as usize) {
+        say(out, "  ");
+        say_place(out, word);
+        say(out, "\n");
     }
 }
 
@@ -170,21 +106,26 @@ fn say_resources(out: Stdout, space: u32, count: u32) {
 fn say_range(out: Stdout, range: Range)
     requires { Proper range }
 {
-    say_resources(out, range.space(), ranges::size(range.order()));
-    say(out, b" from selector ");
-    say_number(out, range.at(0).number());
-    say(out, b" on\n");
+    let thing = match range.space() {
+        sizes::MEMORY => "page",
+        sizes::IO => "port",
+        _ => "object",
+    };
+    let count = ranges::size(range.order());
+    let resources = Counted { count, thing };
+    let first = range.at(0).number();
+    say(out, format_args!("{resources} from selector {first} on\n"));
 }
 
 // Ends a line with what a LOOKUP found.
 pub(crate) fn say_found(out: Stdout, reply: Reply) {
-    let Reply::Success(word) = reply else {
+    let Ok(word) = reply else {
         say_done(out, reply);
         return;
     };
     match Descriptor::from_word(word).read() {
-        Reading::Null => say(out, b"nothing\n"),
-        Reading::Malformed => say(out, b"NO RANGE\n"),
+        Reading::Null => say(out, "nothing\n"),
+        Reading::Malformed => say(out, "NO RANGE\n"),
         Reading::Good(found) => say_range(out, found),
     }
 }

@@ -1,8 +1,7 @@
 -- What boot lends to the root: two pages, where they come from, and what is left when the root gives one up.
-use Rattle.std.specs.Prelude.{ℕ, suc, ◌+◌, ◌<◌, ◌≤◌, ◌≡◌, ◌&&◌, ◌||◌, List, ◌∷◌, eqb, length, drop}
+use Rattle.std.specs.Prelude.{ℕ, suc, ◌+◌, ◌<◌, ◌≤◌, ◌≡◌, ◌&&◌, ◌||◌, List, ◌∷◌, eqb, length, drop, Ok}
 use Rattle.words.specs.Sizes.{memory, io, place_of, places}
 use Rattle.descriptor.specs.declared.Reading.TheVariants.{Good}
-use Rattle.reply.specs.declared.Reply.TheVariants.{Success}
 use Rattle.interface.specs.Basics.{put, count_below}
 use Rattle.interface.specs.Places.{live, nothing, tables_of}
 use Rattle.interface.specs.Boot.{hypervisor, root, root_ec, boot}
@@ -25,11 +24,11 @@ pub record LentAtBoot (page permissions : ℕ) : Type 0 where
       (boot_history.fillings k ≡ record { place = place_of root memory page; resource = page; permissions = permissions; source = suc j })
   -- the census of domain 0's place after boot, given a word or more, counts and lists the root's place alone
   pub counts_root : (list : List ℕ) → 1 ≤ length list →
-      census_of (tables_of boot) (place_of hypervisor memory page) list ≡ record { reply = Success 1; list = place_of root memory page ∷ drop 1 list }
+      census_of (tables_of boot) (place_of hypervisor memory page) list ≡ record { reply = Ok 1; list = place_of root memory page ∷ drop 1 list }
   -- a REVOKE of the root's place alone, with all mask bits and self 1, by the root's EC after boot, succeeds, makes that place null, and leaves every other place and every object
   -- alone
   pub given_up : (c : Call) → c.number ≡ REVOKE → c.caller ≡ root_ec → reading c.first ≡ Good (one_place (place_of root memory page)) → c.second ≡ 1 →
-      (hypercall_reply (tables_of boot) c ≡ Success 0) ×
+      (hypercall_reply (tables_of boot) c ≡ Ok 0) ×
       (hypercall_tables (tables_of boot) c ≡ tables_of (record { caps = put boot.caps (place_of root memory page) nothing; objects = boot.objects }))
 
 -- Boot lends the root page 63 with permissions 1 and page 62 with permissions 3, and no other page and no port. Its history has a filling for each of the 161 places that it fills; there

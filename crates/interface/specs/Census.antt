@@ -1,8 +1,8 @@
 -- The census of a place: its strict descendants.
-use Rattle.std.specs.Prelude.{ℕ, List, ◌++◌, leb, ltb, length, drop, if◌then◌else◌}
+use Rattle.std.specs.Prelude.{ℕ, List, ◌++◌, leb, ltb, length, drop, if◌then◌else◌, Ok, Err}
 use Rattle.words.specs.Sizes.{places}
-use Rattle.reply.specs.declared.Reply.{Reply}
-use Rattle.reply.specs.declared.Reply.TheVariants.{Success, Damaged, BadPar, BadCap, Short}
+use Rattle.reply.specs.Replies.{Reply}
+use Rattle.reply.specs.declared.Refusal.TheVariants.{Damaged, BadPar, BadCap, Short}
 use Rattle.interface.specs.Basics.{gather}
 use Rattle.interface.specs.Places.{Cap, State, Tables, live, shown}
 use Rattle.interface.specs.Damage.{sound}
@@ -22,12 +22,12 @@ pub record CensusResult : Type 0 where
 unfoldable pub counted : State → ℕ → List ℕ → CensusResult
 counted s place list =
     let found = descendants s.caps place in
-    if leb places place then record { reply = BadPar; list = list } else
+    if leb places place then record { reply = Err BadPar; list = list } else
     if live (s.caps place) then
-    (if ltb (length list) (length found) then record { reply = Short (length found); list = list }
-    else record { reply = Success (length found); list = found ++ drop (length found) list })
-    else record { reply = BadCap; list = list }
+    (if ltb (length list) (length found) then record { reply = Err (Short (length found)); list = list }
+    else record { reply = Ok (length found); list = found ++ drop (length found) list })
+    else record { reply = Err BadCap; list = list }
 
 -- a census on tables of any lengths: damage is tested first
 unfoldable pub census_of : Tables → ℕ → List ℕ → CensusResult
-census_of tables place list = if sound tables then counted (shown tables) place list else record { reply = Damaged; list = list }
+census_of tables place list = if sound tables then counted (shown tables) place list else record { reply = Err Damaged; list = list }

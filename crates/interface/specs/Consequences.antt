@@ -1,5 +1,5 @@
 -- What else follows from the rules: each statement under one sentence.
-use Rattle.std.specs.Prelude.{ℕ, ◌+◌, ◌^◌, ◌≤◌, ◌<◌, ◌≡◌, ◌↔◌, ◌⊎◌, Bool, true, false, not, ◌||◌, ◌&&◌, List, [], ◌∷◌, eqb, if◌then◌else◌}
+use Rattle.std.specs.Prelude.{ℕ, ◌+◌, ◌^◌, ◌≤◌, ◌<◌, ◌≡◌, ◌↔◌, ◌⊎◌, Bool, true, false, not, ◌||◌, ◌&&◌, List, [], ◌∷◌, eqb, if◌then◌else◌, Ok, Err}
 use Rattle.words.specs.Sizes.{object, place_of, domain_of, space_of, selector_of, greatest_order}
 use Rattle.words.specs.Permissions.{within}
 use Rattle.words.specs.Ranges.{rounded}
@@ -7,7 +7,7 @@ use Rattle.reply.specs.Replies.{status_of}
 use Rattle.descriptor.specs.declared.Range.{Range}
 use Rattle.descriptor.specs.declared.Reading.{Reading}
 use Rattle.descriptor.specs.declared.Reading.TheVariants.{Null, Malformed, Good}
-use Rattle.reply.specs.declared.Reply.TheVariants.{Success, Damaged}
+use Rattle.reply.specs.declared.Refusal.TheVariants.{Damaged}
 use Rattle.interface.specs.Basics.{word}
 use Rattle.interface.specs.Places.{Cap, State, Tables, live, cap_at, shown, parentless, free, PD, EC, SC, PT, SM, domain_word, ec_word, kind_of, greatest_of, object_place, object_in}
 use Rattle.interface.specs.Boot.{hypervisor, root}
@@ -31,8 +31,8 @@ StaysSound = (tables : Tables) (event : Event) → sound tables ≡ true → sou
 
 -- A call or a census answers DAMAGED exactly where the tables are not sound; so after any events from boot none does
 pub record DamagedExactly : Type 0 where
-  pub hypercall_damaged : (tables : Tables) (c : Call) → (hypercall_reply tables c ≡ Damaged) ↔ (sound tables ≡ false)
-  pub census_damaged : (tables : Tables) (place : ℕ) (list : List ℕ) → ((census_of tables place list).reply ≡ Damaged) ↔ (sound tables ≡ false)
+  pub hypercall_damaged : (tables : Tables) (c : Call) → (hypercall_reply tables c ≡ Err Damaged) ↔ (sound tables ≡ false)
+  pub census_damaged : (tables : Tables) (place : ℕ) (list : List ℕ) → ((census_of tables place list).reply ≡ Err Damaged) ↔ (sound tables ≡ false)
   pub never_from_boot : (events : List Event) → sound (from_boot events) ≡ true
 
 -- A refused event changes no word of tables, block or list
@@ -73,7 +73,7 @@ pub record LargestOrder (s : State) (domain : ℕ) (range : Range) (order : ℕ)
 -- A selector that holds nothing is reported as nothing: a LOOKUP that is not refused answers 0 exactly when its descriptor names nothing, and otherwise the largest range
 abbrev pub NothingIsNothing : Type 0
 NothingIsNothing =
-    (s : State) (c : Call) (answer : ℕ) → c.number ≡ LOOKUP → reply_of (rules s c) ≡ Success answer →
+    (s : State) (c : Call) (answer : ℕ) → c.number ≡ LOOKUP → reply_of (rules s c) ≡ Ok answer →
     ((answer ≡ 0) ↔ (names_nothing s (caller_domain s c) (reading c.first) ≡ true)) ×
     ((range : Range) → reading c.first ≡ Good range → names_nothing s (caller_domain s c) (Good range) ≡ false →
     (order : ℕ) × LargestOrder s (caller_domain s c) range order ×
@@ -88,7 +88,7 @@ NothingIsNothing =
 
 -- A range that LOOKUP answers has at most 64 selectors, in the object space too: each of its places names a resource of its own, and of pages, ports and objects there are 64 each
 abbrev pub AnswersFew : Type 0
-AnswersFew = (s : State) (c : Call) (answer : ℕ) → c.number ≡ LOOKUP → reply_of (rules s c) ≡ Success answer → order_field answer ≤ 6
+AnswersFew = (s : State) (c : Call) (answer : ℕ) → c.number ≡ LOOKUP → reply_of (rules s c) ≡ Ok answer → order_field answer ≤ 6
 
 -- a step of a list that delegates to a place
 pub data Delegates (destination source mask : ℕ) : List Effect → Type 0 where
@@ -180,7 +180,7 @@ pub record AddsNoPermission : Type 0 where
 -- with self 1, and its old ones otherwise; nothing else of it moves, except that a place left with none is null; and no object moves
 abbrev pub RevokesExactly : Type 0
 RevokesExactly =
-    (s : State) (c : Call) (answer : ℕ) → c.number ≡ REVOKE → reply_of (rules s c) ≡ Success answer →
+    (s : State) (c : Call) (answer : ℕ) → c.number ≡ REVOKE → reply_of (rules s c) ≡ Ok answer →
     ((after s c).objects ≡ s.objects) ×
     (reading c.first ≡ Null → after s c ≡ s) ×
     ((range : Range) → reading c.first ≡ Good range → (place : ℕ) →

@@ -1,9 +1,8 @@
 -- What a creation leaves: the record and the place of the new object, and that nothing else changes, except for places of a new PD's domain: what its initial range delivers there
 -- stands with the deliveries.
-use Rattle.std.specs.Prelude.{ℕ, ◌+◌, ◌%◌, ◌<◌, ◌≡◌, true, false}
+use Rattle.std.specs.Prelude.{ℕ, ◌+◌, ◌%◌, ◌<◌, ◌≡◌, true, false, Ok}
 use Rattle.words.specs.Fields.{bits}
 use Rattle.words.specs.Sizes.{object, selectors, domain_of, records}
-use Rattle.reply.specs.declared.Reply.TheVariants.{Success}
 use Rattle.interface.specs.Places.{State, free, PD, EC, SC, PT, SM, kind_word, domain_word, cpu_word, event_base_word, ec_word, priority_word, quantum_word, mtd_word, entry_word, identifier_word, count_word, named_words, greatest_of, kind_of, object_in}
 use Rattle.interface.specs.Damage.{pds_below, has_pd}
 use Rattle.interface.specs.Verdicts.{Call, CREATE_PD, CREATE_EC, CREATE_SC, CREATE_PT, CREATE_SM}
@@ -67,8 +66,8 @@ pub record SmCreated (s : State) (c : Call) (number : ℕ) : Type 0 where
 
 -- a creation that succeeds leaves its object in some record
 pub record CreatedExactly : Type 0 where
-  pub pd_created : Every CREATE_PD (λ s c. Answers s c (Success 0) → (number : ℕ) × PdCreated s c number)
-  pub ec_created : Every CREATE_EC (λ s c. Answers s c (Success 0) → (number : ℕ) × EcCreated s c number)
-  pub sc_created : Every CREATE_SC (λ s c. Answers s c (Success 0) → (number : ℕ) × ScCreated s c number)
-  pub pt_created : Every CREATE_PT (λ s c. Answers s c (Success 0) → (number : ℕ) × PtCreated s c number)
-  pub sm_created : Every CREATE_SM (λ s c. Answers s c (Success 0) → (number : ℕ) × SmCreated s c number)
+  pub pd_created : Every CREATE_PD (λ s c. Answers s c (Ok 0) → (number : ℕ) × PdCreated s c number)
+  pub ec_created : Every CREATE_EC (λ s c. Answers s c (Ok 0) → (number : ℕ) × EcCreated s c number)
+  pub sc_created : Every CREATE_SC (λ s c. Answers s c (Ok 0) → (number : ℕ) × ScCreated s c number)
+  pub pt_created : Every CREATE_PT (λ s c. Answers s c (Ok 0) → (number : ℕ) × PtCreated s c number)
+  pub sm_created : Every CREATE_SM (λ s c. Answers s c (Ok 0) → (number : ℕ) × SmCreated s c number)

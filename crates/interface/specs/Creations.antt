@@ -4,7 +4,7 @@ use Rattle.words.specs.Fields.{bits}
 use Rattle.words.specs.Sizes.{domains, object, selectors, place_of, records}
 use Rattle.descriptor.specs.declared.Reading.{Reading}
 use Rattle.descriptor.specs.declared.Reading.TheVariants.{Null, Malformed, Good}
-use Rattle.reply.specs.declared.Reply.TheVariants.{BadCap, BadCpu, BadPar, NoRoom}
+use Rattle.reply.specs.declared.Refusal.TheVariants.{BadCap, BadCpu, BadPar, NoRoom}
 use Rattle.interface.specs.Basics.{listed, lowest}
 use Rattle.interface.specs.Places.{State, live, free, PD, EC, SC, PT, SM, domain_word, kind_of, create_bit, bind_sc_bit, bind_pt_bit, object_place, object_in, permitted}
 use Rattle.interface.specs.Boot.{cpus}

@@ -1,9 +1,9 @@
 -- Damage: the twelve rules that tables keep. Tables that break one are damaged, and every call refuses them.
-use Rattle.std.specs.Prelude.{ℕ, ◌+◌, ◌-◌, Bool, true, not, ◌&&◌, ◌||◌, List, [], ◌∷◌, eqb, leb, ltb, if◌then◌else◌}
+use Rattle.std.specs.Prelude.{ℕ, ◌+◌, ◌-◌, Bool, true, not, ◌&&◌, ◌||◌, List, [], ◌∷◌, eqb, leb, ltb, if◌then◌else◌, Option, Some, None}
 use Rattle.words.specs.Sizes.{domains, object, selectors, domain_of, space_of, places, records, record_words, greatest_depth}
 use Rattle.words.specs.Permissions.{within}
 use Rattle.reply.specs.declared.Fault.{Fault}
-use Rattle.reply.specs.declared.Fault.TheVariants.{NoFault, Lengths, AtRecord, AtPlace}
+use Rattle.reply.specs.declared.Fault.TheVariants.{Lengths, AtRecord, AtPlace}
 use Rattle.interface.specs.Basics.{all_below, any_below, count_below, lowest, all}
 use Rattle.interface.specs.Places.{Cap, State, Tables, live, nothing, sized, shown, free, PD, EC, SC, PT, SM, domain_word, cpu_word, event_base_word, ec_word, priority_word, quantum_word, named_words, kind_of, greatest}
 use Rattle.interface.specs.Boot.{boot, hypervisor, cpus, root_pd, root_sc}
@@ -158,16 +158,16 @@ unfoldable pub sound : Tables → Bool
 sound tables = sized tables && sound_state (shown tables)
 
 -- which rule is the first that a state breaks, and where: the lowest record that breaks it, or else the lowest place
-unfoldable pub first_fault : State → List Rule → Fault
-first_fault s [] = NoFault
+unfoldable pub first_fault : State → List Rule → Option Fault
+first_fault s [] = None
 first_fault s (rule ∷ rules) =
     let r = lowest records (λ i. not (rule.record_keeps_lem s i)) in
     let p = lowest places (λ i. not (rule.place_keeps_lem s i)) in
     let later = first_fault s rules in
-    if ltb r records then AtRecord rule.number r else
-    if ltb p places then AtPlace rule.number p else
+    if ltb r records then Some (AtRecord rule.number r) else
+    if ltb p places then Some (AtPlace rule.number p) else
     later
 
 -- the first fault of tables; wrong lengths are rule 1's
-unfoldable pub fault : Tables → Fault
-fault tables = if sized tables then first_fault (shown tables) rules_of_damage else Lengths
+unfoldable pub fault : Tables → Option Fault
+fault tables = if sized tables then first_fault (shown tables) rules_of_damage else Some Lengths

@@ -1,6 +1,6 @@
 -- The damage report: it and the test of soundness agree, and it names the first rule that is broken, and the lowest record or else the lowest place that breaks it.
-use Rattle.std.specs.Prelude.{ℕ, ◌<◌, ◌≡◌, ◌↔◌, Bool, true, false, [], ◌∷◌, map, eqb, length, if◌then◌else◌}
-use Rattle.reply.specs.declared.Fault.TheVariants.{NoFault, Lengths, AtRecord, AtPlace}
+use Rattle.std.specs.Prelude.{ℕ, ◌<◌, ◌≡◌, ◌↔◌, Bool, true, false, [], ◌∷◌, map, eqb, length, if◌then◌else◌, Some, None}
+use Rattle.reply.specs.declared.Fault.TheVariants.{Lengths, AtRecord, AtPlace}
 use Rattle.interface.specs.Places.{State, Tables, shown}
 use Rattle.interface.specs.Damage.{Rule, fixed_record, fixed_place, interrupt_rule, unnamed_rule, used_first, pd_rule, ec_rule, sc_rule, pt_rule, null_place, live_place, shallow, rules_of_damage, sound, fault}
 
@@ -49,8 +49,8 @@ pub record FirstAtPlace (s : State) (number p : ℕ) : Type 0 where
 -- The damage report names the damage: none exactly where the tables are sound, the lengths exactly where one is wrong, and otherwise where the first broken rule is first broken.
 -- The rules after the first are numbered 2 to 12
 pub record DamageNamed : Type 0 where
-  pub no_fault : (tables : Tables) → (fault tables ≡ NoFault) ↔ (sound tables ≡ true)
-  pub lengths : (tables : Tables) → (fault tables ≡ Lengths) ↔ ((length tables.places ≡ 12288) × (length tables.objects ≡ 320) → ⊥)
-  pub at_record : (tables : Tables) (number r : ℕ) → fault tables ≡ AtRecord number r → FirstAtRecord (shown tables) number r
-  pub at_place : (tables : Tables) (number p : ℕ) → fault tables ≡ AtPlace number p → FirstAtPlace (shown tables) number p
+  pub no_fault : (tables : Tables) → (fault tables ≡ None) ↔ (sound tables ≡ true)
+  pub lengths : (tables : Tables) → (fault tables ≡ Some Lengths) ↔ ((length tables.places ≡ 12288) × (length tables.objects ≡ 320) → ⊥)
+  pub at_record : (tables : Tables) (number r : ℕ) → fault tables ≡ Some (AtRecord number r) → FirstAtRecord (shown tables) number r
+  pub at_place : (tables : Tables) (number p : ℕ) → fault tables ≡ Some (AtPlace number p) → FirstAtPlace (shown tables) number p
   pub rule_numbers : map (λ (rule : Rule). rule.number) rules_of_damage ≡ 2 ∷ 3 ∷ 4 ∷ 5 ∷ 6 ∷ 7 ∷ 8 ∷ 9 ∷ 10 ∷ 11 ∷ 12 ∷ []

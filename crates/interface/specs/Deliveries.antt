@@ -1,15 +1,13 @@
 -- What calls move: CALL's message item by item, offset by offset and word by word, and CREATE_PD's initial range. Each statement stands under one sentence.
-use Rattle.std.specs.Prelude.{ℕ, suc, ◌+◌, ◌-◌, ◌*◌, ◌^◌, ◌≤◌, ◌<◌, min, ◌≡◌, ◌↔◌, ◌⊎◌, true, false, ◌&&◌, List, eqb, length, take, if◌then◌else◌}
+use Rattle.std.specs.Prelude.{Ok, ℕ, suc, ◌+◌, ◌-◌, ◌*◌, ◌^◌, ◌≤◌, ◌<◌, min, ◌≡◌, ◌↔◌, ◌⊎◌, true, false, ◌&&◌, List, eqb, length, take, if◌then◌else◌}
 use Rattle.std.specs.Int.Bits.{bit_and}
 use Rattle.words.specs.Fields.{bits}
 use Rattle.words.specs.Sizes.{object, place_of, domain_of, places}
 use Rattle.words.specs.Ranges.{raised}
 use Rattle.descriptor.specs.declared.Range.{Range}
 use Rattle.descriptor.specs.declared.Reading.TheVariants.{Malformed, Good}
-use Rattle.descriptor.specs.declared.Match.TheVariants.{Both}
 use Rattle.descriptor.specs.declared.Reason.{Reason}
 use Rattle.descriptor.specs.declared.Reason.TheVariants.{NullDescriptor, MalformedDescriptor, TypesDiffer, NothingFilled, TranslationBroke}
-use Rattle.reply.specs.declared.Reply.TheVariants.{Success}
 use Rattle.interface.specs.Basics.{word}
 use Rattle.interface.specs.Places.{State, live, nothing, domain_word, kind_of}
 use Rattle.interface.specs.Damage.{sound_state}
@@ -130,7 +128,7 @@ pub record ItemsDelivered (s : State) (c : Call) (answer : ℕ) : Type 0 where
 -- Every CALL that is granted delivers its items so
 abbrev pub DeliversItems : Type 0
 DeliversItems =
-    (s : State) (c : Call) (answer : ℕ) → c.number ≡ CALL → reply_of (rules s c) ≡ Success answer → ItemsDelivered s c answer
+    (s : State) (c : Call) (answer : ℕ) → c.number ≡ CALL → reply_of (rules s c) ≡ Ok answer → ItemsDelivered s c answer
 
 -- The received block.
 
@@ -150,7 +148,7 @@ pub record DelegateShown (s : State) (c : Call) (item shown : ℕ) : Type 0 wher
 
 -- what the rule of translation makes of a range and a window on the state before an item
 abbrev pub translated_item : State → Call → ℕ → Range → Range → Item
-translated_item s c item range window = translate_item (before s c item 0).state (caller_domain s c) (callee_domain s c) (Both range window)
+translated_item s c item range window = translate_item (before s c item 0).state (caller_domain s c) (callee_domain s c) (Ok (range, window))
 
 -- what it is shown of an item that asks to translate: the null descriptor, 0, where the item does not translate into a window; where it does, what the rule of translation shows,
 -- and that is exact
@@ -211,7 +209,7 @@ pub record WordsDelivered (s : State) (c : Call) (block : List ℕ) : Type 0 whe
 -- Every CALL that is granted gives the receiver its words so
 abbrev pub DeliversWords : Type 0
 DeliversWords =
-    (s : State) (c : Call) (answer : ℕ) → c.number ≡ CALL → reply_of (rules s c) ≡ Success answer → WordsDelivered s c (block_of c.target (rules s c))
+    (s : State) (c : Call) (answer : ℕ) → c.number ≡ CALL → reply_of (rules s c) ≡ Ok answer → WordsDelivered s c (block_of c.target (rules s c))
 
 -- CREATE_PD's initial range.
 
@@ -239,4 +237,4 @@ pub record RangeDelivered (s : State) (c : Call) : Type 0 where
 -- Every CREATE_PD that is granted delivers its initial range so
 abbrev pub DeliversRange : Type 0
 DeliversRange =
-    (s : State) (c : Call) (answer : ℕ) → c.number ≡ CREATE_PD → reply_of (rules s c) ≡ Success answer → RangeDelivered s c
+    (s : State) (c : Call) (answer : ℕ) → c.number ≡ CREATE_PD → reply_of (rules s c) ≡ Ok answer → RangeDelivered s c

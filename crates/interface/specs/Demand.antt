@@ -1,9 +1,8 @@
 -- Demand 3: what was lent out, over any sequence of events from boot.
-use Rattle.std.specs.Prelude.{ℕ, ◌<◌, ◌≤◌, ◌^◌, ◌≡◌, true, ◌&&◌, List, [], ◌∷◌, ◌++◌, ltb, length, drop, if◌then◌else◌}
+use Rattle.std.specs.Prelude.{ℕ, ◌<◌, ◌≤◌, ◌^◌, ◌≡◌, true, ◌&&◌, List, [], ◌∷◌, ◌++◌, ltb, length, drop, if◌then◌else◌, Ok}
 use Rattle.words.specs.Sizes.{domain_of, space_of, selector_of, places}
 use Rattle.descriptor.specs.declared.Range.{Range}
 use Rattle.descriptor.specs.declared.Reading.TheVariants.{Good}
-use Rattle.reply.specs.declared.Reply.TheVariants.{Success}
 use Rattle.interface.specs.Basics.{member, rising}
 use Rattle.interface.specs.Places.{State, Tables, live, nothing, domain_word, cap_at, tables_of, shown}
 use Rattle.interface.specs.Boot.{boot}
@@ -75,10 +74,10 @@ pub record LentOut (tables : Tables) (h : History) : Type 0 where
   pub heirs_rise : (place : ℕ) → rising (heirs h place) ≡ true
   -- the census of a live place, given a word for each heir or more, succeeds with their number; its first words are the heirs, and its others stay
   pub census_exact : (place : ℕ) → place < places → live (cap_at tables.places place) ≡ true → (list : List ℕ) → length (heirs h place) ≤ length list →
-      census_of tables place list ≡ record { reply = Success (length (heirs h place)); list = heirs h place ++ drop (length (heirs h place)) list }
+      census_of tables place list ≡ record { reply = Ok (length (heirs h place)); list = heirs h place ++ drop (length (heirs h place)) list }
   -- revoking everything below a live place succeeds, makes exactly the heirs null, and leaves every other place's words, every object and the block alone
   pub revoke_exact : (place : ℕ) → place < places → live (cap_at tables.places place) ≡ true → (c : Call) → RevokesBelow (shown tables) place c →
-      (hypercall_reply tables c ≡ Success 0) ×
+      (hypercall_reply tables c ≡ Ok 0) ×
       ((other : ℕ) → other < places → cap_at (hypercall_tables tables c).places other ≡ (if heir h place other then nothing else cap_at tables.places other)) ×
       ((hypercall_tables tables c).objects ≡ tables.objects) ×
       (hypercall_block tables c ≡ c.target)
@@ -102,7 +101,7 @@ pub record GoesOn (here : Tables) (c : Call) (after : Outcome) : Type 0 where
   pub next_tables : (events : List Event) → here ≡ from_boot events → after.tables ≡ from_boot (events ++ (hypercalls c ∷ []))
   pub empties_heirs : (events : List Event) → here ≡ from_boot events → (place : ℕ) → place < places → live (cap_at here.places place) ≡ true →
       RevokesBelow (shown here) place c →
-      (after.reply ≡ Success 0) ×
+      (after.reply ≡ Ok 0) ×
       ((other : ℕ) → other < places →
       cap_at after.tables.places other ≡ (if heir (history_of events) place other then nothing else cap_at here.places other)) ×
       (after.tables.objects ≡ here.objects) ×
@@ -116,6 +115,6 @@ pub record ShowsHeirs (here : Tables) (place : ℕ) (list : List ℕ) (result : 
       length (heirs (history_of events) place) ≤ length list →
       result ≡
       record {
-        reply = Success (length (heirs (history_of events) place));
+        reply = Ok (length (heirs (history_of events) place));
         list = heirs (history_of events) place ++ drop (length (heirs (history_of events) place)) list;
       }

@@ -1,12 +1,12 @@
 -- The worked examples of the interface (docs/INTERFACE.md has them in words), as one list of statements under one name; one whole message and one initial range; the journal's example
 -- and where the reading of a journal stops; and the numbers of the layout.
-use Rattle.std.specs.Prelude.{ℕ, zero, suc, ◌+◌, ◌-◌, ◌≡◌, Bool, true, false, ◌&&◌, List, [], ◌∷◌, ◌++◌, eqb, leb, ltb, if◌then◌else◌}
+use Rattle.std.specs.Prelude.{ℕ, zero, suc, ◌+◌, ◌-◌, ◌≡◌, Bool, true, false, ◌&&◌, List, [], ◌∷◌, ◌++◌, eqb, leb, ltb, if◌then◌else◌, Ok, Err}
 use Rattle.words.specs.Sizes.{memory, object, place_of, io, places, record_words, block_words, domains, records, greatest_depth}
 use Rattle.words.specs.Fields.{greatest_word}
 use Rattle.words.specs.Permissions.{delegated, permits}
 use Rattle.descriptor.specs.declared.Range.{Range}
 use Rattle.descriptor.specs.declared.Reading.TheVariants.{Malformed, Good}
-use Rattle.reply.specs.declared.Reply.TheVariants.{Success, ComTim, BadHyp, BadCap, BadPar, BadCpu, NoRoom, Damaged, BadCaller, Short}
+use Rattle.reply.specs.declared.Refusal.TheVariants.{ComTim, BadHyp, BadCap, BadPar, BadCpu, NoRoom, Damaged, BadCaller, Short}
 use Rattle.interface.specs.Basics.{word, listed}
 use Rattle.interface.specs.Places.{Cap, State, nothing, parentless, PD, EC, PT, domain_word, free, SC, SM, kind_word, cpu_word, event_base_word, ec_word, priority_word, quantum_word, mtd_word, entry_word, identifier_word, count_word, named_words, greatest, create_bit, bind_sc_bit, bind_pt_bit, call_bit, object_place, cap_words, place_table_words, object_table_words}
 use Rattle.interface.specs.Boot.{boot, hypervisor, root, root_ec, boot_record, cpus, gsis}
@@ -119,11 +119,11 @@ called_examples =
     (sound_state placed_line ≡ true)
     ∷ (reading 32777 ≡ Good (record { space = 0; base = 8; order = 0; mask = 2 }))
     ∷  -- self 0 succeeds and leaves 7, 1, null
-    (reply_of (rules placed_line (revoke_line 0)) ≡ Success 0)
+    (reply_of (rules placed_line (revoke_line 0)) ≡ Ok 0)
     ∷ (line_revoked 0 ≡
     record { resource = 8; permissions = 7; parent = 9; depth = 1 } ∷ record { resource = 8; permissions = 1; parent = 393; depth = 2 } ∷ nothing ∷ [])
     ∷  -- self 1 succeeds and leaves 5, 1, null
-    (reply_of (rules placed_line (revoke_line 1)) ≡ Success 0)
+    (reply_of (rules placed_line (revoke_line 1)) ≡ Ok 0)
     ∷ (line_revoked 1 ≡
     record { resource = 8; permissions = 5; parent = 9; depth = 1 } ∷ record { resource = 8; permissions = 1; parent = 393; depth = 2 } ∷ nothing ∷ [])
     ∷  -- the tables stay sound, and hypervisor page 8 keeps its permissions
@@ -139,18 +139,18 @@ called_examples =
 abbrev pub mask_examples : List (Type 0)
 mask_examples =
     ( -- page 8: masks 0 and 8 have no permission of memory, mask 4 has one
-    (reply_of (rules boot (root_revoke 32769 0)) ≡ BadPar)
-    ∷ (reply_of (rules boot (root_revoke 32801 0)) ≡ BadPar)
-    ∷ (reply_of (rules boot (root_revoke 32785 0)) ≡ Success 0)
+    (reply_of (rules boot (root_revoke 32769 0)) ≡ Err BadPar)
+    ∷ (reply_of (rules boot (root_revoke 32801 0)) ≡ Err BadPar)
+    ∷ (reply_of (rules boot (root_revoke 32785 0)) ≡ Ok 0)
     ∷  -- port 8: mask 2 has none of I/O, mask 3 has one
-    (reply_of (rules boot (root_revoke 32778 0)) ≡ BadPar)
-    ∷ (reply_of (rules boot (root_revoke 32782 0)) ≡ Success 0)
+    (reply_of (rules boot (root_revoke 32778 0)) ≡ Err BadPar)
+    ∷ (reply_of (rules boot (root_revoke 32782 0)) ≡ Ok 0)
     ∷  -- object selector 40: mask 0 has none, mask 16 has one of a PD's
-    (reply_of (rules boot (root_revoke 163843 0)) ≡ BadPar)
-    ∷ (reply_of (rules boot (root_revoke 163907 0)) ≡ Success 0)
+    (reply_of (rules boot (root_revoke 163843 0)) ≡ Err BadPar)
+    ∷ (reply_of (rules boot (root_revoke 163907 0)) ≡ Ok 0)
     ∷  -- the null descriptor, with mask 0 and with mask 8
-    (reply_of (rules boot (root_revoke 0 0)) ≡ Success 0)
-    ∷ (reply_of (rules boot (root_revoke 32 0)) ≡ Success 0)
+    (reply_of (rules boot (root_revoke 0 0)) ≡ Ok 0)
+    ∷ (reply_of (rules boot (root_revoke 32 0)) ≡ Ok 0)
     ∷ [])
 
 -- boot's tables with the hypervisor's objects 0 to 15 delegated with mask 1 to the root's selectors 192 to 207 (places 704 to 719)
@@ -172,13 +172,13 @@ rising_caps selector = record { resource = selector; permissions = 1; parent = 0
 abbrev pub lookup_examples : List (Type 0)
 lookup_examples =
     ( -- the whole object space, order 8, is asked for by its base, which is null after boot; order 9 is malformed
-    (reply_of (rules boot (root_lookup 1027)) ≡ Success 0)
-    ∷ (reply_of (rules boot (root_lookup 1155)) ≡ BadPar)
+    (reply_of (rules boot (root_lookup 1027)) ≡ Ok 0)
+    ∷ (reply_of (rules boot (root_lookup 1155)) ≡ Err BadPar)
     ∷  -- where the root has taken objects 0 to 15, the range around selector 200 is 192 of order 4, and base 456 asks for the same
     (sound_state objects_taken ≡ true)
-    ∷ (reply_of (rules objects_taken (root_lookup (selector_word object 200))) ≡ Success 786951)
-    ∷ (reply_of (rules objects_taken (root_lookup (selector_word object 456))) ≡ Success 786951)
-    ∷ (reply_of (rules objects_taken (root_lookup (selector_word object 208))) ≡ Success 0)
+    ∷ (reply_of (rules objects_taken (root_lookup (selector_word object 200))) ≡ Ok 786951)
+    ∷ (reply_of (rules objects_taken (root_lookup (selector_word object 456))) ≡ Ok 786951)
+    ∷ (reply_of (rules objects_taken (root_lookup (selector_word object 208))) ≡ Ok 0)
     ∷  -- the search goes up to order 8 among objects, and to order 6 in memory
     (around rising_caps object 200 ≡ record { space = object; base = 0; order = 8; mask = 1 })
     ∷ (around rising_caps memory 40 ≡ record { space = memory; base = 0; order = 6; mask = 1 })
@@ -219,12 +219,12 @@ WorkedExamples =
     ∷ (line_permissions (line_after true) ≡ 5 ∷ 1 ∷ 0 ∷ [])
     ∷ ((line_after true).caps 2 ≡ nothing)
     ∷  -- the root's LOOKUP of object selectors after boot: 131199 at 32, 0 at 35
-    (reply_of (rules boot (root_lookup (selector_word object 32))) ≡ Success 131199)
-    ∷ (reply_of (rules boot (root_lookup (selector_word object 35))) ≡ Success 0)
+    (reply_of (rules boot (root_lookup (selector_word object 32))) ≡ Ok 131199)
+    ∷ (reply_of (rules boot (root_lookup (selector_word object 35))) ≡ Ok 0)
     ∷  -- and of its pages: 258053 at 63, 253965 at 62, 0 at 61
-    (reply_of (rules boot (root_lookup (selector_word memory 63))) ≡ Success 258053)
-    ∷ (reply_of (rules boot (root_lookup (selector_word memory 62))) ≡ Success 253965)
-    ∷ (reply_of (rules boot (root_lookup (selector_word memory 61))) ≡ Success 0)
+    (reply_of (rules boot (root_lookup (selector_word memory 63))) ≡ Ok 258053)
+    ∷ (reply_of (rules boot (root_lookup (selector_word memory 62))) ≡ Ok 253965)
+    ∷ (reply_of (rules boot (root_lookup (selector_word memory 61))) ≡ Ok 0)
     ∷  -- the line as calls, and objects' alignment and orders
     Each called_examples
     ∷  -- the masks of REVOKE
@@ -307,7 +307,7 @@ example_message =
 abbrev pub MessageExample : Type 0
 MessageExample =
     Each
-    ((reply_of (rules message_state example_message) ≡ Success 4)
+    ((reply_of (rules message_state example_message) ≡ Ok 4)
     ∷ (block_of block_before (rules message_state example_message) ≡ block_received)
     ∷ ((after message_state example_message).caps (place_of neighbour memory 43) ≡ nothing)
     ∷ ((after message_state example_message).caps (place_of neighbour memory 44) ≡ lent_page 6 3 (place_of root memory 6) 2)
@@ -338,7 +338,7 @@ example_range =
 abbrev pub RangeExample : Type 0
 RangeExample =
     Each
-    ((reply_of (rules message_state example_range) ≡ Success 0)
+    ((reply_of (rules message_state example_range) ≡ Ok 0)
     ∷ ((after message_state example_range).objects 34 domain_word ≡ 3)
     ∷ ((after message_state example_range).caps (place_of root object 41) ≡ parentless 34 31)
     ∷ ((after message_state example_range).caps (place_of 3 object 40) ≡ record { resource = 33; permissions = 2; parent = place_of root object 40 + 1; depth = 1 })
@@ -444,11 +444,11 @@ LayoutNumbers =
     ∷  -- how many bytes follow each kind byte of the journal from 0 on
     (listed 13 body_bytes ≡ 520 ∷ 0 ∷ 16 ∷ 20 ∷ 20 ∷ 28 ∷ 16 ∷ 12 ∷ 8 ∷ 0 ∷ 0 ∷ 12 ∷ 0 ∷ [])
     ∷  -- the statuses, in the order of the table, and the answers
-    (status_of (Success 9) ∷ status_of ComTim ∷ status_of BadHyp ∷ status_of BadCap ∷ status_of BadPar ∷ status_of BadCpu ∷ status_of NoRoom ∷ status_of Damaged ∷
-    status_of BadCaller ∷ status_of (Short 9) ∷ [] ≡
+    (status_of (Ok 9) ∷ status_of (Err ComTim) ∷ status_of (Err BadHyp) ∷ status_of (Err BadCap) ∷ status_of (Err BadPar) ∷ status_of (Err BadCpu) ∷ status_of (Err NoRoom) ∷ status_of (Err Damaged) ∷
+    status_of (Err BadCaller) ∷ status_of (Err (Short 9)) ∷ [] ≡
     0 ∷ 1 ∷ 3 ∷ 4 ∷ 5 ∷ 7 ∷ 16 ∷ 17 ∷ 18 ∷ 19 ∷ [])
-    ∷ (answer_of (Success 9) ∷ answer_of ComTim ∷ answer_of BadHyp ∷ answer_of BadCap ∷ answer_of BadPar ∷ answer_of BadCpu ∷ answer_of NoRoom ∷ answer_of Damaged ∷
-    answer_of BadCaller ∷ answer_of (Short 9) ∷ [] ≡
+    ∷ (answer_of (Ok 9) ∷ answer_of (Err ComTim) ∷ answer_of (Err BadHyp) ∷ answer_of (Err BadCap) ∷ answer_of (Err BadPar) ∷ answer_of (Err BadCpu) ∷ answer_of (Err NoRoom) ∷ answer_of (Err Damaged) ∷
+    answer_of (Err BadCaller) ∷ answer_of (Err (Short 9)) ∷ [] ≡
     9 ∷ 0 ∷ 0 ∷ 0 ∷ 0 ∷ 0 ∷ 0 ∷ 0 ∷ 0 ∷ 9 ∷ [])
     ∷  -- places: the first of domain 0's I/O and object spaces, the root's PD, the last of all; how many there are, and the words of both tables
     (place_of 0 1 0 ∷ place_of 0 2 0 ∷ place_of 1 2 32 ∷ place_of 7 2 255 ∷ places ∷ place_table_words ∷ object_table_words ∷ [] ≡

@@ -5,7 +5,7 @@ use Rattle.words.specs.Ranges.{rounded}
 use Rattle.descriptor.specs.declared.Range.{Range}
 use Rattle.descriptor.specs.declared.Reading.{Reading}
 use Rattle.descriptor.specs.declared.Reading.TheVariants.{Null, Malformed, Good}
-use Rattle.reply.specs.declared.Reply.TheVariants.{BadPar}
+use Rattle.reply.specs.declared.Refusal.TheVariants.{BadPar}
 use Rattle.interface.specs.Basics.{all_below}
 use Rattle.interface.specs.Places.{Cap, State, live}
 use Rattle.interface.specs.RangeDescriptors.{describe, reading, malformed}

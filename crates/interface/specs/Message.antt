@@ -1,14 +1,11 @@
 -- The message block: word 0, the windows, the untyped words and the typed items.
-use Rattle.std.specs.Prelude.{ℕ, zero, suc, ◌+◌, ◌-◌, ◌*◌, ◌^◌, min, Bool, ◌&&◌, List, [], ◌∷◌, ◌++◌, eqb, leb, length, take, drop, set, if◌then◌else◌}
+use Rattle.std.specs.Prelude.{Ok, Err, ℕ, zero, suc, ◌+◌, ◌-◌, ◌*◌, ◌^◌, min, Bool, ◌&&◌, List, [], ◌∷◌, ◌++◌, eqb, leb, length, take, drop, set, if◌then◌else◌}
 use Rattle.words.specs.Fields.{bits}
 use Rattle.words.specs.Sizes.{place_of, domain_of, selector_of, block_words}
 use Rattle.words.specs.Permissions.{delegated}
 use Rattle.words.specs.Ranges.{aligned, raised}
 use Rattle.descriptor.specs.declared.Range.{Range}
-use Rattle.descriptor.specs.declared.Match.{Match}
-use Rattle.descriptor.specs.declared.Match.TheVariants.{Both, Neither}
-use Rattle.descriptor.specs.declared.Received.{Received}
-use Rattle.descriptor.specs.declared.Received.TheVariants.{NullItem, Shows}
+use Rattle.descriptor.specs.Descriptors.{Match, Received}
 use Rattle.descriptor.specs.declared.Reason.TheVariants.{NothingFilled, TranslationBroke}
 use Rattle.interface.specs.Basics.{word, listed, all_below}
 use Rattle.interface.specs.Places.{Cap, State}
@@ -69,8 +66,8 @@ hotspot_field second = bits 12 31 second
 
 -- the descriptor that the receiver is given: what it is shown of an item is nothing, for a reason, or a range
 abbrev pub received_word : Received → ℕ
-received_word (NullItem reason) = null
-received_word (Shows range) = describe range
+received_word (Err reason) = null
+received_word (Ok range) = describe range
 
 -- and the second word, by the one that was sent and by why the item is null: bit 0 is that of the sent one, bits 1 to 3 are the reason's number, and no other bit is set
 abbrev pub received_second : (second why : ℕ) → ℕ
@@ -104,14 +101,14 @@ delegations from to hotspot item window =
 
 -- where nothing is filled the item is null; otherwise it shows the destination with the item's mask
 unfoldable pub delegate_item : State → ℕ → ℕ → ℕ → Match → Item
-delegate_item s sender receiver second (Neither reason) = record { received = NullItem reason; effects = [] }
-delegate_item s sender receiver second (Both item window) =
+delegate_item s sender receiver second (Err reason) = record { received = Err reason; effects = [] }
+delegate_item s sender receiver second (Ok (item, window)) =
     let o = smaller_order item window in
     let effects = delegations (source_domain sender second) receiver (hotspot_field second) item window in
     record {
       received =
-          if eqb (filled effects s) 0 then NullItem NothingFilled
-          else Shows (record { space = item.space; base = raised_base window o (hotspot_field second); order = o; mask = item.mask });
+          if eqb (filled effects s) 0 then Err NothingFilled
+          else Ok (record { space = item.space; base = raised_base window o (hotspot_field second); order = o; mask = item.mask });
       effects = effects;
     }
 
@@ -155,19 +152,19 @@ translates caps sender receiver item window =
 
 -- the item then shows R, the sender's order, and the bits of the mask that every sender permission has; otherwise it is null
 unfoldable pub translate_item : State → ℕ → ℕ → Match → Item
-translate_item s sender receiver (Neither reason) = record { received = NullItem reason; effects = [] }
-translate_item s sender receiver (Both item window) =
+translate_item s sender receiver (Err reason) = record { received = Err reason; effects = [] }
+translate_item s sender receiver (Ok (item, window)) =
     record {
       received =
           if translates s.caps sender receiver item window then
-          Shows
+          Ok
           (record {
             space = item.space;
             base = translated_base s.caps sender receiver item;
             order = item.order;
             mask = common item.mask (2 ^ item.order) (λ i. s.caps (sender_place sender item i));
           })
-          else NullItem TranslationBroke;
+          else Err TranslationBroke;
       effects = [];
     }
 

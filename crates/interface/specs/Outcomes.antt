@@ -1,6 +1,6 @@
 -- Outcomes: what a hypercall and boot come to on lent tables and blocks, as one value each, so that a promise of code is one equation.
 use Rattle.std.specs.Prelude.{ℕ, ◌≡◌, List}
-use Rattle.reply.specs.declared.Reply.{Reply}
+use Rattle.reply.specs.Replies.{Reply}
 use Rattle.interface.specs.Places.{Tables, tables}
 use Rattle.interface.specs.Verdicts.{Call}
 use Rattle.interface.specs.Rules.{hypercall_reply, hypercall_tables, hypercall_block, boot_reply, boot_tables}

@@ -1,7 +1,7 @@
 -- CALL.
 use Rattle.std.specs.Prelude.{ℕ, not, ◌&&◌, eqb, length}
 use Rattle.words.specs.Sizes.{block_words}
-use Rattle.reply.specs.declared.Reply.TheVariants.{ComTim, BadCap, BadPar, BadCpu}
+use Rattle.reply.specs.declared.Refusal.TheVariants.{ComTim, BadCap, BadPar, BadCpu}
 use Rattle.interface.specs.Basics.{word}
 use Rattle.interface.specs.Places.{State, PT, ec_word, domain_word, cpu_word, call_bit, object_place, permitted, object_in}
 use Rattle.interface.specs.Verdicts.{Call, Verdict, deliver, require◌else◌then◌, caller_domain}

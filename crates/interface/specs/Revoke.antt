@@ -4,7 +4,7 @@ use Rattle.words.specs.Sizes.{place_of}
 use Rattle.words.specs.Permissions.{delegated}
 use Rattle.descriptor.specs.declared.Reading.{Reading}
 use Rattle.descriptor.specs.declared.Reading.TheVariants.{Null, Malformed, Good}
-use Rattle.reply.specs.declared.Reply.TheVariants.{BadPar}
+use Rattle.reply.specs.declared.Refusal.TheVariants.{BadPar}
 use Rattle.interface.specs.Places.{State, greatest_in}
 use Rattle.interface.specs.RangeDescriptors.{reading, malformed}
 use Rattle.interface.specs.Effects.{Effect, cut}

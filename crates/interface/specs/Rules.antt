@@ -1,7 +1,7 @@
 -- The rules of every hypercall, on what the tables show and on the tables themselves.
-use Rattle.std.specs.Prelude.{ℕ, ◌≡◌, List, eqb, if◌then◌else◌}
-use Rattle.reply.specs.declared.Reply.{Reply}
-use Rattle.reply.specs.declared.Reply.TheVariants.{Success, Damaged, BadHyp, BadCaller}
+use Rattle.std.specs.Prelude.{ℕ, ◌≡◌, List, eqb, if◌then◌else◌, Ok, Err}
+use Rattle.reply.specs.Replies.{Reply}
+use Rattle.reply.specs.declared.Refusal.TheVariants.{Damaged, BadHyp, BadCaller}
 use Rattle.interface.specs.Places.{State, Tables, sized, shown, tables_of}
 use Rattle.interface.specs.Boot.{boot}
 use Rattle.interface.specs.Damage.{sound_state, is_ec}
@@ -60,7 +60,7 @@ hypercall_tables tables c = if sized tables then tables_of (after (shown tables)
 
 -- boot on lent tables: whatever they held, they are boot's; tables of other lengths are damaged, and stay
 unfoldable pub boot_reply : Tables → Reply
-boot_reply tables = if sized tables then Success 0 else Damaged
+boot_reply tables = if sized tables then Ok 0 else Err Damaged
 
 unfoldable pub boot_tables : Tables → Tables
 boot_tables tables = if sized tables then tables_of boot else tables

@@ -1,7 +1,7 @@
 -- SM_CTRL.
 use Rattle.std.specs.Prelude.{ℕ, ◌+◌, ◌-◌, [], ◌∷◌, eqb, leb, ltb, if◌then◌else◌}
 use Rattle.words.specs.Fields.{greatest_word}
-use Rattle.reply.specs.declared.Reply.TheVariants.{ComTim, BadCap, BadPar}
+use Rattle.reply.specs.declared.Refusal.TheVariants.{ComTim, BadCap, BadPar}
 use Rattle.interface.specs.Places.{State, SM, count_word, object_place, permitted, object_in}
 use Rattle.interface.specs.Effects.{count}
 use Rattle.interface.specs.Verdicts.{Call, Verdict, grant, require◌else◌then◌, caller_domain}

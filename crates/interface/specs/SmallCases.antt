@@ -1,14 +1,12 @@
 -- Small cases worked by hand, for the definitions that the worked examples do not reach: the history, steps, translation, why an item is null (14.5 of the manual), and the
 -- damage report.
-use Rattle.std.specs.Prelude.{ℕ, ◌+◌, ◌-◌, ◌≡◌, Bool, true, false, ◌&&◌, List, [], ◌∷◌, eqb, leb, ltb, if◌then◌else◌}
+use Rattle.std.specs.Prelude.{Ok, Err, ℕ, ◌+◌, ◌-◌, ◌≡◌, Bool, true, false, ◌&&◌, List, [], ◌∷◌, eqb, leb, ltb, if◌then◌else◌, Option, Some, None}
 use Rattle.words.specs.Sizes.{block_words}
 use Rattle.descriptor.specs.declared.Range.{Range}
-use Rattle.descriptor.specs.declared.Match.TheVariants.{Both}
 use Rattle.descriptor.specs.declared.Reason.TheVariants.{TranslationBroke}
-use Rattle.descriptor.specs.declared.Received.{Received}
-use Rattle.descriptor.specs.declared.Received.TheVariants.{NullItem, Shows}
+use Rattle.descriptor.specs.Descriptors.{Received}
 use Rattle.reply.specs.declared.Fault.{Fault}
-use Rattle.reply.specs.declared.Fault.TheVariants.{NoFault, AtRecord, AtPlace}
+use Rattle.reply.specs.declared.Fault.TheVariants.{AtRecord, AtPlace}
 use Rattle.interface.specs.Basics.{word, put, listed}
 use Rattle.interface.specs.Places.{Cap, State, nothing}
 use Rattle.interface.specs.Boot.{boot, hypervisor, root}
@@ -53,7 +51,7 @@ two_pages base =
 
 -- what a receiver is shown of domain 2's pages 8 and 9, through a window
 abbrev pub pages_shown : ℕ → ℕ → Range → Received
-pages_shown base receiver window = (translate_item (two_pages base) 2 receiver (Both (pages 8 1) window)).received
+pages_shown base receiver window = (translate_item (two_pages base) 2 receiver (Ok ((pages 8 1), window))).received
 
 -- the second word that the root gets, on boot's state, of an item from itself: by the item's descriptor, its second word and the window that it is for
 abbrev pub second_on_boot : (descriptor second window : ℕ) → ℕ
@@ -89,44 +87,44 @@ deep_line delegations =
     }
 
 -- the rule that a state breaks first, and where
-abbrev pub fault_of : State → Fault
+abbrev pub fault_of : State → Option Fault
 fault_of s = first_fault s rules_of_damage
 
 -- the faults of boot's state with one record, one place or two places changed, and of the line above
 abbrev pub damage_cases : List (Type 0)
 damage_cases =
     ( -- rule 4: an SM with a word that it does not name; and a kind above 5
-    (fault_of (record_changed boot 31 (5 ∷ 0 ∷ 0 ∷ 7 ∷ 0 ∷ [])) ≡ AtRecord 4 31)
-    ∷ (fault_of (record_changed boot 31 (6 ∷ 0 ∷ 0 ∷ 0 ∷ 0 ∷ [])) ≡ AtRecord 4 31)
+    (fault_of (record_changed boot 31 (5 ∷ 0 ∷ 0 ∷ 7 ∷ 0 ∷ [])) ≡ Some (AtRecord 4 31))
+    ∷ (fault_of (record_changed boot 31 (6 ∷ 0 ∷ 0 ∷ 0 ∷ 0 ∷ [])) ≡ Some (AtRecord 4 31))
     ∷  -- rule 5: a free record that is not all 0; and a used record after a free one
-    (fault_of (record_changed boot 31 (0 ∷ 9 ∷ 0 ∷ 0 ∷ 0 ∷ [])) ≡ AtRecord 5 31)
-    ∷ (fault_of (record_changed boot 32 (5 ∷ 0 ∷ 0 ∷ 0 ∷ 0 ∷ [])) ≡ AtRecord 5 32)
+    (fault_of (record_changed boot 31 (0 ∷ 9 ∷ 0 ∷ 0 ∷ 0 ∷ [])) ≡ Some (AtRecord 5 31))
+    ∷ (fault_of (record_changed boot 32 (5 ∷ 0 ∷ 0 ∷ 0 ∷ 0 ∷ [])) ≡ Some (AtRecord 5 32))
     ∷  -- rule 6: the second PD has domain 3
-    (fault_of (record_changed boot 31 (1 ∷ 3 ∷ 0 ∷ 0 ∷ 0 ∷ [])) ≡ AtRecord 6 31)
+    (fault_of (record_changed boot 31 (1 ∷ 3 ∷ 0 ∷ 0 ∷ 0 ∷ [])) ≡ Some (AtRecord 6 31))
     ∷  -- rule 7: an EC of domain 0, which has no PD; of CPU 4; and with event base 256
-    (fault_of (record_changed boot 31 (2 ∷ 0 ∷ 0 ∷ 0 ∷ 0 ∷ [])) ≡ AtRecord 7 31)
-    ∷ (fault_of (record_changed boot 31 (2 ∷ 1 ∷ 4 ∷ 0 ∷ 0 ∷ [])) ≡ AtRecord 7 31)
-    ∷ (fault_of (record_changed boot 31 (2 ∷ 1 ∷ 0 ∷ 256 ∷ 0 ∷ [])) ≡ AtRecord 7 31)
+    (fault_of (record_changed boot 31 (2 ∷ 0 ∷ 0 ∷ 0 ∷ 0 ∷ [])) ≡ Some (AtRecord 7 31))
+    ∷ (fault_of (record_changed boot 31 (2 ∷ 1 ∷ 4 ∷ 0 ∷ 0 ∷ [])) ≡ Some (AtRecord 7 31))
+    ∷ (fault_of (record_changed boot 31 (2 ∷ 1 ∷ 0 ∷ 256 ∷ 0 ∷ [])) ≡ Some (AtRecord 7 31))
     ∷  -- and none with event base 255
-    (fault_of (record_changed boot 31 (2 ∷ 1 ∷ 0 ∷ 255 ∷ 0 ∷ [])) ≡ NoFault)
+    (fault_of (record_changed boot 31 (2 ∷ 1 ∷ 0 ∷ 255 ∷ 0 ∷ [])) ≡ None)
     ∷  -- rule 8: an SC of priority 0 or 256, of quantum 0 or 1,048,576, and for object 28, which is a PD
-    (fault_of (record_changed boot 31 (3 ∷ 29 ∷ 0 ∷ 10 ∷ 0 ∷ [])) ≡ AtRecord 8 31)
-    ∷ (fault_of (record_changed boot 31 (3 ∷ 29 ∷ 256 ∷ 10 ∷ 0 ∷ [])) ≡ AtRecord 8 31)
-    ∷ (fault_of (record_changed boot 31 (3 ∷ 29 ∷ 1 ∷ 0 ∷ 0 ∷ [])) ≡ AtRecord 8 31)
-    ∷ (fault_of (record_changed boot 31 (3 ∷ 29 ∷ 1 ∷ 1048576 ∷ 0 ∷ [])) ≡ AtRecord 8 31)
-    ∷ (fault_of (record_changed boot 31 (3 ∷ 28 ∷ 1 ∷ 10 ∷ 0 ∷ [])) ≡ AtRecord 8 31)
+    (fault_of (record_changed boot 31 (3 ∷ 29 ∷ 0 ∷ 10 ∷ 0 ∷ [])) ≡ Some (AtRecord 8 31))
+    ∷ (fault_of (record_changed boot 31 (3 ∷ 29 ∷ 256 ∷ 10 ∷ 0 ∷ [])) ≡ Some (AtRecord 8 31))
+    ∷ (fault_of (record_changed boot 31 (3 ∷ 29 ∷ 1 ∷ 0 ∷ 0 ∷ [])) ≡ Some (AtRecord 8 31))
+    ∷ (fault_of (record_changed boot 31 (3 ∷ 29 ∷ 1 ∷ 1048576 ∷ 0 ∷ [])) ≡ Some (AtRecord 8 31))
+    ∷ (fault_of (record_changed boot 31 (3 ∷ 28 ∷ 1 ∷ 10 ∷ 0 ∷ [])) ≡ Some (AtRecord 8 31))
     ∷  -- rule 9: a PT for object 28
-    (fault_of (record_changed boot 31 (4 ∷ 28 ∷ 0 ∷ 0 ∷ 0 ∷ [])) ≡ AtRecord 9 31)
+    (fault_of (record_changed boot 31 (4 ∷ 28 ∷ 0 ∷ 0 ∷ 0 ∷ [])) ≡ Some (AtRecord 9 31))
     ∷  -- rule 11: memory outside domain 0 without a parent; with a parent that holds another page; and more than all permissions
-    (fault_of (place_changed boot 392 (record { resource = 0; permissions = 7; parent = 0; depth = 0 })) ≡ AtPlace 11 392)
-    ∷ (fault_of (place_changed boot 392 (record { resource = 0; permissions = 7; parent = 2; depth = 1 })) ≡ AtPlace 11 392)
-    ∷ (fault_of (place_changed boot 392 (record { resource = 0; permissions = 8; parent = 1; depth = 1 })) ≡ AtPlace 11 392)
+    (fault_of (place_changed boot 392 (record { resource = 0; permissions = 7; parent = 0; depth = 0 })) ≡ Some (AtPlace 11 392))
+    ∷ (fault_of (place_changed boot 392 (record { resource = 0; permissions = 7; parent = 2; depth = 1 })) ≡ Some (AtPlace 11 392))
+    ∷ (fault_of (place_changed boot 392 (record { resource = 0; permissions = 8; parent = 1; depth = 1 })) ≡ Some (AtPlace 11 392))
     ∷  -- rule 11: the root's page 63 with page 62 as its parent; and no damage where the root has lost both its pages
-    (fault_of (place_changed boot 447 (record { resource = 63; permissions = 1; parent = 63; depth = 1 })) ≡ AtPlace 11 447)
-    ∷ (fault_of (places_changed 446 447 nothing) ≡ NoFault)
+    (fault_of (place_changed boot 447 (record { resource = 63; permissions = 1; parent = 63; depth = 1 })) ≡ Some (AtPlace 11 447))
+    ∷ (fault_of (places_changed 446 447 nothing) ≡ None)
     ∷  -- rule 12: a line of 64 delegations, which ends at root page 63; one of 63 is no damage
-    (fault_of (deep_line 64) ≡ AtPlace 12 447)
-    ∷ (fault_of (deep_line 63) ≡ NoFault)
+    (fault_of (deep_line 64) ≡ Some (AtPlace 12 447))
+    ∷ (fault_of (deep_line 63) ≡ None)
     ∷ [])
 
 -- received second words: each reason why an item is null, and an item that is not
@@ -172,26 +170,26 @@ SmallCases =
     ∷  -- steps that delegate nothing fill no place by delegation
     (filled (make 31 (5 ∷ []) ∷ store 31 1 (9 ∷ []) ∷ hold 300 31 ∷ cut 2 8 1 true ∷ []) boot ≡ 0)
     ∷  -- the two pages came from root pages 10 and 11, and these from hypervisor pages 8 and 9: the common permissions are 3
-    (pages_shown 10 1 (pages 0 6) ≡ Shows (record { space = 0; base = 10; order = 1; mask = 3 }))
-    ∷ (pages_shown 10 0 (pages 0 6) ≡ Shows (record { space = 0; base = 8; order = 1; mask = 3 }))
+    (pages_shown 10 1 (pages 0 6) ≡ Ok (record { space = 0; base = 10; order = 1; mask = 3 }))
+    ∷ (pages_shown 10 0 (pages 0 6) ≡ Ok (record { space = 0; base = 8; order = 1; mask = 3 }))
     ∷  -- root pages 9 and 10 are not aligned; 10 and 11 lie outside a window from 8 to 9; and the pages did not come from domain 3
-    (pages_shown 9 1 (pages 0 6) ≡ NullItem TranslationBroke)
-    ∷ (pages_shown 10 1 (pages 8 1) ≡ NullItem TranslationBroke)
-    ∷ (pages_shown 10 3 (pages 0 6) ≡ NullItem TranslationBroke)
+    (pages_shown 9 1 (pages 0 6) ≡ Err TranslationBroke)
+    ∷ (pages_shown 10 1 (pages 8 1) ≡ Err TranslationBroke)
+    ∷ (pages_shown 10 3 (pages 0 6) ≡ Err TranslationBroke)
     ∷  -- a line of 62 delegations is delegated on, to domain 2's page 0 (place 768), and one of 63 is not
     ((act (give 768 445 7) (deep_line 62)).caps 768 ≡ record { resource = 0; permissions = 7; parent = 446; depth = 63 })
     ∷ ((act (give 768 446 7) (deep_line 63)).caps 768 ≡ nothing)
     ∷  -- and the end of a line of 63 is translated to where it came from, hypervisor page 0
-    ((translate_item (deep_line 63) root hypervisor (Both (pages 62 0) (pages 0 6))).received ≡ Shows (record { space = 0; base = 0; order = 0; mask = 7 }))
+    ((translate_item (deep_line 63) root hypervisor (Ok ((pages 62 0), (pages 0 6)))).received ≡ Ok (record { space = 0; base = 0; order = 0; mask = 7 }))
     ∷  -- received second words
     Each reason_cases
     ∷  -- boot has no fault; of places of domain 0 that changed the lower one is named, and a changed record before them
-    (fault_of boot ≡ NoFault)
-    ∷ (fault_of (places_changed 9 11 (record { resource = 9; permissions = 1; parent = 0; depth = 0 })) ≡ AtPlace 2 9)
-    ∷ (fault_of (records_changed (places_changed 9 11 (record { resource = 9; permissions = 1; parent = 0; depth = 0 })) 2 3) ≡ AtRecord 2 2)
+    (fault_of boot ≡ None)
+    ∷ (fault_of (places_changed 9 11 (record { resource = 9; permissions = 1; parent = 0; depth = 0 })) ≡ Some (AtPlace 2 9))
+    ∷ (fault_of (records_changed (places_changed 9 11 (record { resource = 9; permissions = 1; parent = 0; depth = 0 })) 2 3) ≡ Some (AtRecord 2 2))
     ∷  -- of interrupt records that are no SMs the lower one is named, and of null places that are not all 0
-    (fault_of (records_changed boot 6 7) ≡ AtRecord 3 6)
-    ∷ (fault_of (places_changed 1000 1001 (record { resource = 1; permissions = 0; parent = 0; depth = 0 })) ≡ AtPlace 10 1000)
+    (fault_of (records_changed boot 6 7) ≡ Some (AtRecord 3 6))
+    ∷ (fault_of (places_changed 1000 1001 (record { resource = 1; permissions = 0; parent = 0; depth = 0 })) ≡ Some (AtPlace 10 1000))
     ∷  -- and one state, or more, that breaks each of the other rules first
     Each damage_cases
     ∷ [])

@@ -1,13 +1,11 @@
 -- What a translation shows: for each place of the sender's range its nearest strict ancestor in the receiver's domain, in one range of the receiver's.
-use Rattle.std.specs.Prelude.{ℕ, ◌+◌, ◌%◌, ◌^◌, ◌≤◌, ◌<◌, ◌≡◌, ◌↔◌, true, []}
+use Rattle.std.specs.Prelude.{Ok, Err, ℕ, ◌+◌, ◌%◌, ◌^◌, ◌≤◌, ◌<◌, ◌≡◌, ◌↔◌, true, []}
 use Rattle.words.specs.Sizes.{domains, place_of, domain_of, selector_of}
 use Rattle.words.specs.Permissions.{permits}
 use Rattle.descriptor.specs.Descriptors.{Proper}
 use Rattle.descriptor.specs.declared.Range.{Range}
-use Rattle.descriptor.specs.declared.Match.TheVariants.{Both}
 use Rattle.descriptor.specs.declared.Reason.{Reason}
 use Rattle.descriptor.specs.declared.Reason.TheVariants.{TranslationBroke}
-use Rattle.descriptor.specs.declared.Received.TheVariants.{NullItem, Shows}
 use Rattle.interface.specs.Places.{Cap, State, live}
 use Rattle.interface.specs.Damage.{sound_state}
 use Rattle.interface.specs.Message.{Item, translate_item}
@@ -57,12 +55,12 @@ module _ (s : State) (sender receiver : ℕ) (item window : Range) where
   -- breaks it
   pub record Translated (outcome : Item) : Type 0 where
     pub no_steps : outcome.effects ≡ []
-    pub shows_so : (range : Range) → outcome.received ≡ Shows range → ShownFor range
-    pub null_so : (outcome.received ≡ NullItem TranslationBroke) ↔ Breaks
-    pub one_reason : (reason : Reason) → outcome.received ≡ NullItem reason → reason ≡ TranslationBroke
+    pub shows_so : (range : Range) → outcome.received ≡ Ok range → ShownFor range
+    pub null_so : (outcome.received ≡ Err TranslationBroke) ↔ Breaks
+    pub one_reason : (reason : Reason) → outcome.received ≡ Err reason → reason ≡ TranslationBroke
 
 -- Translation is exact, on every sound state, for any item that is a proper range and for any window, from any domain to any domain, also to the same one
 abbrev pub TranslatesExactly : Type 0
 TranslatesExactly =
     (s : State) (sender receiver : ℕ) (item window : Range) → sound_state s ≡ true → sender < domains → Proper item →
-    Translated s sender receiver item window (translate_item s sender receiver (Both item window))
+    Translated s sender receiver item window (translate_item s sender receiver (Ok (item, window)))

@@ -1,7 +1,7 @@
 -- Calls and verdicts: what a rule is asked, and what it answers.
-use Rattle.std.specs.Prelude.{ℕ, Bool, cond, List, []}
-use Rattle.reply.specs.declared.Reply.{Reply}
-use Rattle.reply.specs.declared.Reply.TheVariants.{Success}
+use Rattle.std.specs.Prelude.{ℕ, Bool, cond, List, [], Ok, Err}
+use Rattle.reply.specs.declared.Refusal.{Refusal}
+use Rattle.reply.specs.Replies.{Reply}
 use Rattle.interface.specs.Places.{State, domain_word}
 use Rattle.interface.specs.Effects.{Effect}
 
@@ -50,31 +50,31 @@ SM_CTRL = 11
 abbrev pub caller_domain : State → Call → ℕ
 caller_domain s c = s.objects c.caller domain_word
 
--- a rule's verdict: a refusal with its reply; or an answer and the steps to take, which leaves the callee's block; or, for a message, these and the block as it is given back
+-- a rule's verdict: a refusal; or an answer and the steps to take, which leaves the callee's block; or, for a message, these and the block as it is given back
 pub data Verdict : Type 0 where
-  refuse : Reply → Verdict
+  refuse : Refusal → Verdict
   grant : (answer : ℕ) → List Effect → Verdict
   deliver : (answer : ℕ) → List Effect → (block : List ℕ) → Verdict
 
 -- a check of a rule: where its test fails the call is refused, else the rule goes on
 infixr 4 require◌else◌then◌
-abbrev pub require◌else◌then◌ : Bool → Reply → Verdict → Verdict
-require test else reply then next = cond test next (refuse reply)
+abbrev pub require◌else◌then◌ : Bool → Refusal → Verdict → Verdict
+require test else refusal then next = cond test next (refuse refusal)
 
 -- a verdict's reply: SUCCESS with the answer where the call is not refused
 abbrev pub reply_of : Verdict → Reply
-reply_of (refuse reply) = reply
-reply_of (grant answer effects) = Success answer
-reply_of (deliver answer effects block) = Success answer
+reply_of (refuse refusal) = Err refusal
+reply_of (grant answer effects) = Ok answer
+reply_of (deliver answer effects block) = Ok answer
 
 -- a verdict's steps: a refused call takes none
 abbrev pub effects_of : Verdict → List Effect
-effects_of (refuse reply) = []
+effects_of (refuse refusal) = []
 effects_of (grant answer effects) = effects
 effects_of (deliver answer effects block) = effects
 
 -- the callee's block after the call: only a message changes it
 abbrev pub block_of : List ℕ → Verdict → List ℕ
-block_of target (refuse reply) = target
+block_of target (refuse refusal) = target
 block_of target (grant answer effects) = target
 block_of target (deliver answer effects block) = block

@@ -1,11 +1,10 @@
 -- What the reasons in received second words change: these words, and nothing else. The rules stand here with any number in the reason's place, and are compared with the rules as
 -- they are.
-use Rattle.std.specs.Prelude.{ℕ, zero, suc, ◌+◌, ◌-◌, ◌*◌, ◌<◌, ◌≡◌, List, [], ◌∷◌, eqb, length, if◌then◌else◌}
+use Rattle.std.specs.Prelude.{ℕ, zero, suc, ◌+◌, ◌-◌, ◌*◌, ◌<◌, ◌≡◌, List, [], ◌∷◌, eqb, length, if◌then◌else◌, Ok}
 use Rattle.words.specs.Fields.{bits}
-use Rattle.descriptor.specs.declared.Received.{Received}
-use Rattle.reply.specs.Replies.{status_of, answer_of}
-use Rattle.reply.specs.declared.Reply.{Reply}
-use Rattle.reply.specs.declared.Reply.TheVariants.{Success, Damaged}
+use Rattle.descriptor.specs.Descriptors.{Received}
+use Rattle.reply.specs.Replies.{status_of, answer_of, Reply}
+use Rattle.reply.specs.declared.Refusal.TheVariants.{Damaged}
 use Rattle.interface.specs.Basics.{word}
 use Rattle.interface.specs.Places.{State, Tables, sized, shown, tables_of}
 use Rattle.interface.specs.Damage.{sound_state}
@@ -53,7 +52,7 @@ lines_with beside tables index (c ∷ calls) =
 pub record IsSecond (c : Call) (reply : Reply) (number : ℕ) : Type 0 where
   pub is_call : c.number ≡ CALL
   pub answer : ℕ
-  pub succeeds : reply ≡ Success answer
+  pub succeeds : reply ≡ Ok answer
   pub item : ℕ
   pub is_item : item < item_count c
   pub there : number ≡ 62 - 2 * item
@@ -63,7 +62,7 @@ pub record IsSecond (c : Call) (reply : Reply) (number : ℕ) : Type 0 where
 -- with 0 an item's second word is its kind alone
 pub record NothingElseChanges : Type 0 where
   pub with_reasons : (s : State) (c : Call) → rules_with why_null s c ≡ rules s c
-  pub without_reasons : (s : State) (c : Call) (answer item : ℕ) → c.number ≡ CALL → reply_of (rules s c) ≡ Success answer → item < item_count c →
+  pub without_reasons : (s : State) (c : Call) (answer item : ℕ) → c.number ≡ CALL → reply_of (rules s c) ≡ Ok answer → item < item_count c →
       word (block_of c.target (rules_with (λ received. 0) s c)) (62 - 2 * item) ≡ bits 0 0 (second_word c item)
   pub same_steps : (beside : Received → ℕ) (s : State) (c : Call) → effects_of (rules_with beside s c) ≡ effects_of (rules s c)
   pub same_reply : (beside : Received → ℕ) (tables : Tables) (c : Call) → reply_of (judged_with beside tables c) ≡ hypercall_reply tables c

@@ -1,4 +1,4 @@
-// The numbers of the hypercalls that are built, for code (specs/Verdicts.antt has the same names).
+// The numbers of the hypercalls that are built, for code (specs/Verdicts.antt has the same names). Callers in any language and a journal's records give them as numbers.
 pub const CALL: u32 = 0;
 
 pub const CREATE_PD: u32 = 2;

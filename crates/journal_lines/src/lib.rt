@@ -51,9 +51,9 @@ fn put_named(out: &mut [u8], name: &[u8; 4], number: u64) -> usize
 
 // Writes the text of a line at the start of a buffer, and answers how many bytes that is: none where the buffer is shorter than the longest line.
 pub fn spell(line: Line, out: &mut [u8]) -> usize
-    ensures out_after { out.new ≡ written out.old 0 (fitting out.old line) }
-    ensures value { result ≡ length (fitting out.old line) }
-    ensures prefix_len { IsPrefixLen result out.new }
+    ensures writes { out.new ≡ written out.old 0 (fitting out.old line) }
+    ensures size { result ≡ length (fitting out.old line) }
+    ensures fits { IsPrefixLen result out.new }
 {
     if out.len() < LINE_BYTES {
         return 0;

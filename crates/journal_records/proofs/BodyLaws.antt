@@ -1,14 +1,17 @@
 -- Words of a body: at their place, past the body's end, and in the part that begins with them; and the words of a block in turn.
 use Prim.Native.Nat.{ℕ, ◌+◌, ◌-◌, ◌*◌, ◌/◌, ◌≤◌, ◌<◌}
-use mathlib.Core.Path.{◌≡◌, sym, ◌∙◌}
+use mathlib.Core.Path.{◌≡◌, refl, sym, ◌∙◌}
 use mathlib.Core.List.{List, [], ◌∷◌}
 use native.Mathlib.Nat.{le_refl, le_of_eq}
 use native.Mathlib.Numerals.{add-one}
 use native.Mathlib.Omega.{arith}
 use lib.ListN.{length, take, drop, set, length-drop, drop_of_length-le}
 use lib.Seq.{take-suc-set, take_all}
+use mir.Syntax.{w32}
+use Rattle.std.specs.Int.{from_le_bytes}
 use Rattle.endian.specs.Numbers.{little, number_at}
 use Rattle.endian.proofs.NumberLaws.{number_of_four}
+use Rattle.endian.proofs.LibraryLaws.{number_read}
 use Rattle.interface.specs.Basics.{word, listed}
 use Rattle.interface.specs.Journal.{body_word}
 
@@ -19,8 +22,10 @@ word_at body index r e = e
 
 -- the first word is that of the first four bytes, and a byte past the end is 0
 pub first_of_four : (bytes : List ℕ) (a b c d r : ℕ) → a ≡ word bytes 0 → b ≡ word bytes 1 → c ≡ word bytes 2 → d ≡ word bytes 3 →
-    r ≡ little (a ∷ b ∷ c ∷ d ∷ []) → r ≡ body_word bytes 0
-first_of_four bytes a b c d r ea eb ec ed er = word_at bytes 0 r (number_of_four bytes 0 r (rw (er, ea, eb, ec, ed)))
+    r ≡ from_le_bytes w32 (a ∷ b ∷ c ∷ d ∷ []) → r ≡ body_word bytes 0
+first_of_four bytes a b c d r ea eb ec ed er =
+    let whole : r ≡ little (a ∷ b ∷ c ∷ d ∷ []) = er ∙ number_read w32 (a ∷ b ∷ c ∷ d ∷ []) (omega arith) refl in
+    word_at bytes 0 r (number_of_four bytes 0 r (rw (whole, ea, eb, ec, ed)))
 
 -- a word whose bytes are all past the end is 0
 pub word_past_end : (body : List ℕ) (index : ℕ) → length body / 4 < index → 0 ≡ body_word body index

@@ -7,6 +7,7 @@ ghost use Rattle.interface.specs.Basics.{listed, word};
 ghost use Rattle.interface.specs.Verdicts.{CALL};
 ghost use Rattle.interface.specs.Journal.{body_bytes, body_word, recorded_call};
 
+use endian::Number;
 use interface::numbers;
 use words::sizes;
 
@@ -21,7 +22,7 @@ const TARGET_START: usize = SOURCE_START + sizes::BLOCK_WORDS;
 // The bytes of a CALL's body, which its second block ends.
 const CALL_BYTES: usize = WORD_BYTES * (TARGET_START + sizes::BLOCK_WORDS);
 
-// How many bytes follow a kind byte: none for a kind that is none of these.
+// How many bytes follow a kind byte: none for a kind that is none of these. That is 0 and no `Option`, since `body_bytes` of `Journal.antt`, which the contract cites, has 0 there.
 pub fn body_bytes(kind: u8) -> usize
     ensures { result ≡ body_bytes kind }
 {
@@ -43,10 +44,7 @@ pub fn body_bytes(kind: u8) -> usize
 fn byte(bytes: &[u8], at: usize) -> u8
     ensures { result ≡ word bytes.now at }
 {
-    if at < bytes.len() {
-        return bytes[at];
-    }
-    0
+    bytes.get(at).copied().unwrap_or(0)
 }
 
 // The first word of some bytes.
@@ -54,14 +52,14 @@ fn first_word(bytes: &[u8]) -> u32
     ensures { result ≡ body_word bytes.now 0 }
 {
     if bytes.len() < WORD_BYTES {
-        return endian::of_four(
+        return u32::from_le_bytes([
             byte(bytes, 0),
             byte(bytes, 1),
             byte(bytes, 2),
             byte(bytes, 3),
-        );
+        ]);
     }
-    endian::get32(bytes, 0)
+    u32::get(bytes, 0)
 }
 
 // A word of a body: bytes past the body's end are 0.
@@ -75,16 +73,15 @@ pub fn body_word(body: &[u8], index: usize) -> u32
     first_word(&body[start..])
 }
 
-// Fills a block with the words of a body from one on, where the body has them all.
+// Fills a block with the words of a body from one on, where the body has them all. `short_block` fills it too, but tests each word: for all blocks, that makes the replay of a journal of
+// mixed calls a quarter longer in instructions.
 fn whole_block(body: &[u8], from: usize, block: &mut [u32])
     requires { (from ≤ 2 + block_words) × (4 * (from + block_words) ≤ length body.now) × (length block.old ≡ block_words) }
     ensures { block.new ≡ listed block_words (λ i. body_word body.now (from + i)) }
 {
-    let mut i: usize = 0;
-    while i < sizes::BLOCK_WORDS {
+    for i in 0..sizes::BLOCK_WORDS {
         let at = WORD_BYTES * (from + i);
-        block[i] = endian::get32(body, at);
-        i += 1;
+        block[i] = u32::get(body, at);
     }
 }
 
@@ -93,10 +90,8 @@ fn short_block(body: &[u8], from: usize, block: &mut [u32])
     requires { (from ≤ 2 + block_words) × (length block.old ≡ block_words) }
     ensures { block.new ≡ listed block_words (λ i. body_word body.now (from + i)) }
 {
-    let mut i: usize = 0;
-    while i < sizes::BLOCK_WORDS {
+    for i in 0..sizes::BLOCK_WORDS {
         block[i] = body_word(body, from + i);
-        i += 1;
     }
 }
 
@@ -112,7 +107,7 @@ fn block_from(body: &[u8], from: usize, block: &mut [u32])
     }
 }
 
-// Fills the caller's block of a CALL from its record's body.
+// Fills the caller's block of a CALL from its record's body. Over `block_from`, this and `target` are a line each: their contracts name each block of the recorded call.
 pub fn source(body: &[u8], block: &mut [u32; sizes::BLOCK_WORDS])
     ensures { block.new ≡ (recorded_call CALL body.now).source }
 {

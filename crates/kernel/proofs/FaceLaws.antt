@@ -1,11 +1,12 @@
 -- Answers: from the damage test and what sound tables come to, to what the kernel promises.
+use Rattle.std.specs.Prelude.{Err}
 use Prim.Native.Nat.{ℕ}
 use mathlib.Core.Path.{◌≡◌, sym, ◌∙◌, subst}
 use mathlib.Core.Bool.{true, false}
 use mathlib.Core.List.{List, []}
 use native.Mathlib.Omega.{arith}
-use Rattle.reply.specs.declared.Reply.{Reply}
-use Rattle.reply.specs.declared.Reply.TheVariants.{Damaged}
+use Rattle.reply.specs.Replies.{Reply}
+use Rattle.reply.specs.declared.Refusal.TheVariants.{Damaged}
 use lib.ListN.{length}
 use Rattle.interface.specs.Places.{Tables, sized, cap_at, place_table_words, tables, view, places_in}
 use Rattle.interface.specs.Damage.{sound}
@@ -25,12 +26,12 @@ use Rattle.service.proofs.AdmissionLaws.{refused_outcome}
 
 -- damaged tables are refused
 pub damaged_outcome : (places objects : List ℕ) (c : Call) → sound (tables places objects) ≡ false →
-    Serves c (tables places objects) (tables places objects) c.target Damaged
+    Serves c (tables places objects) (tables places objects) c.target (Err Damaged)
 damaged_outcome places objects c f = refused_outcome places objects c Damaged (judged_once (tables places objects) c ∙ (rw f)) (λ z. omega arith)
 
 -- the census of damaged tables, and that of sound ones
 module _ (places objects : List ℕ) (place : ℕ) (list : List ℕ) where
-  pub census_refused : sound (tables places objects) ≡ false → record { reply = Damaged; list = list } ≡ census_of (tables places objects) place list
+  pub census_refused : sound (tables places objects) ≡ false → record { reply = Err Damaged; list = list } ≡ census_of (tables places objects) place list
   unfolding census_of
   census_refused f = rw f
 

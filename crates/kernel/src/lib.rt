@@ -8,11 +8,12 @@ ghost use Rattle.interface.specs.Outcomes.{call_of, outcome, Booted};
 ghost use Rattle.interface.specs.Census.{census_of};
 ghost use Rattle.interface.specs.Demand.{from_boot, GoesOn, ShowsHeirs};
 
-use reply::Reply;
+use reply::{Refusal, Reply};
 use service::CallWords;
 
 // Any hypercall: its number, the caller's EC number and the six words after it (a call takes as many as it has), the place table and the object table, the caller's message
 // block and the callee's. Damage is tested before all else.
+// Twelve parameters and no struct: the functions for other languages get them so (`abi::rudozhev_hypercall`).
 pub fn hypercall(
     number: u32,
     caller: u32,
@@ -27,7 +28,7 @@ pub fn hypercall(
     source: &[u32],
     target: &mut [u32],
 ) -> Reply
-    ensures target_after { record { reply = result; tables = tables places.new objects.new; block = target.new } ≡
+    ensures is_outcome { record { reply = result; tables = tables places.new objects.new; block = target.new } ≡
         outcome (tables places.old objects.old)
         (call_of number caller first second third fourth fifth sixth source.now target.old) }
     ensures goes_on { GoesOn (tables places.old objects.old)
@@ -45,24 +46,24 @@ pub fn hypercall(
         };
         return service::serve(number, caller, words, places, objects, source, target);
     }
-    Reply::Damaged
+    Err(Refusal::Damaged)
 }
 
 // Fills two lent tables as they are at boot; tables of other lengths are refused and stay.
 pub fn boot(places: &mut [u32], objects: &mut [u32]) -> Reply
     ensures booted { Booted places.old objects.old places.new objects.new result }
-    ensures objects_after { sized (tables places.old objects.old) ≡ true → tables places.new objects.new ≡ from_boot [] }
+    ensures from_boot { sized (tables places.old objects.old) ≡ true → tables places.new objects.new ≡ from_boot [] }
 {
     boot::boot(places, objects)
 }
 
 // The census of a place: its strict descendants in the list, rising, and their number.
 pub fn census(place: u32, places: &[u32], objects: &[u32], list: &mut [u32]) -> Reply
-    ensures list_after { record { reply = result; list = list.new } ≡ census_of (tables places.now objects.now) place list.old }
+    ensures is_census { record { reply = result; list = list.new } ≡ census_of (tables places.now objects.now) place list.old }
     ensures shows_heirs { ShowsHeirs (tables places.now objects.now) place list.old (record { reply = result; list = list.new }) }
 {
     if !soundness::is_sound(places, objects) {
-        return Reply::Damaged;
+        return Err(Refusal::Damaged);
     }
     tree::census(place, places, list)
 }

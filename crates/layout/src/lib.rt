@@ -4,44 +4,23 @@
 // conversions are the only way across. Each conversion says what its number is.
 #![tactic(auto)]
 
-ghost use Rattle.std.specs.Prelude.{◌≡◌, ◌&&◌, ◌+◌, ◌*◌, ◌%◌, ◌<◌, ◌≤◌, eqb, leb, ltb};
+ghost use Rattle.std.specs.Prelude.{◌≡◌, ◌&&◌, ◌+◌, ◌*◌, ◌%◌, ◌<◌, ◌≤◌, leb, ltb};
 ghost use Rattle.words.specs.Sizes.{domains, spaces, object, selectors, stride, places, place_words, records, record_words, place_of, domain_of, space_of, selector_of};
 ghost use Rattle.layout.specs.Numbers.{selected, placed, link_of, linked, numbered};
 
 use words::sizes;
 
-#[derive(Clone, Copy)]
+#[derive(Clone, Copy, PartialEq, Eq)]
 pub struct Selector(u32);
 
-#[derive(Clone, Copy)]
+#[derive(Clone, Copy, PartialEq, Eq, PartialOrd, Ord)]
 pub struct Place(u32);
 
-#[derive(Clone, Copy)]
+#[derive(Clone, Copy, PartialEq, Eq)]
 pub struct ObjectNumber(u32);
 
-// A selector of a space, if a word names one.
-#[derive(Clone, Copy)]
-pub enum FoundSelector {
-    Named(Selector),
-    Outside,
-}
-
-// A place, if a word is the number of one or leads to one.
-#[derive(Clone, Copy)]
-pub enum FoundPlace {
-    At(Place),
-    Nowhere,
-}
-
-// An object number, if a word is one.
-#[derive(Clone, Copy)]
-pub enum FoundObject {
-    Numbered(ObjectNumber),
-    Beyond,
-}
-
-// A capability as a place holds it: the resource's number, the permissions, the parent place plus 1 (0: none), and the depth.
-#[derive(Clone, Copy)]
+// A capability as a place holds it: the resource's number, the permissions, the parent place plus 1 (0: none), and the depth. Each is a word of the table, which may hold anything.
+#[derive(Clone, Copy, PartialEq, Eq)]
 pub struct Cap {
     pub resource: u32,
     pub permissions: u32,
@@ -58,16 +37,16 @@ impl Selector {
     }
 
     // The selector that a word names in a space: object selectors wrap, and a page's or a port's is below the number of selectors of its space.
-    pub fn of(space: u32, word: u32) -> FoundSelector
+    pub fn of(space: u32, word: u32) -> Option<Selector>
         ensures { result ≡ selected space word }
     {
         if space == sizes::OBJECT {
-            return FoundSelector::Named(Selector(word % sizes::OBJECT_SELECTORS));
+            return Some(Selector(word % sizes::OBJECT_SELECTORS));
         }
         if sizes::PAGE_SELECTORS <= word {
-            return FoundSelector::Outside;
+            return None;
         }
-        FoundSelector::Named(Selector(word))
+        Some(Selector(word))
     }
 
     // The selector that a count along a range has come to: the one conversion of such a count.
@@ -112,14 +91,13 @@ impl Place {
     }
 
     // The place of a word's number, if there is one.
-    pub fn found(word: u32) -> FoundPlace
+    pub fn found(word: u32) -> Option<Place>
         ensures { result ≡ placed word }
     {
         if word < sizes::PLACES {
-            FoundPlace::At(Place(word))
-        } else {
-            FoundPlace::Nowhere
+            return Some(Place(word));
         }
+        None
     }
 
     // The link word that leads to the place: a child's parent word.
@@ -131,13 +109,13 @@ impl Place {
     }
 
     // The place that a link word leads to, if it leads to one.
-    pub fn linked(word: u32) -> FoundPlace
+    pub fn linked(word: u32) -> Option<Place>
         ensures { result ≡ linked word }
     {
         if (word == 0) | (sizes::PLACES < word) {
-            return FoundPlace::Nowhere;
+            return None;
         }
-        FoundPlace::At(Place(word - 1))
+        Some(Place(word - 1))
     }
 
     // The place as a word of the interface, a list's word of a census or where a fault is, and as the number of the bit that marks it.
@@ -160,13 +138,6 @@ impl Place {
         ensures { result.0 ≡ self.0 + offset }
     {
         Place(self.0 + offset)
-    }
-
-    // Whether the place comes before another.
-    pub fn is_before(self, other: Place) -> bool
-        ensures { result ≡ ltb self.0 other.0 }
-    {
-        self.0 < other.0
     }
 
     // Whether the place is among as many places as `size` says from `first` on.
@@ -229,14 +200,13 @@ impl ObjectNumber {
     }
 
     // The object number that a word is, if it is one.
-    pub fn found(word: u32) -> FoundObject
+    pub fn found(word: u32) -> Option<ObjectNumber>
         ensures { result ≡ numbered word }
     {
         if word < sizes::RECORDS {
-            FoundObject::Numbered(ObjectNumber(word))
-        } else {
-            FoundObject::Beyond
+            return Some(ObjectNumber(word));
         }
+        None
     }
 
     // The object number as a word of the interface: the resource of its capabilities, an EC word, or where a fault is.
@@ -251,12 +221,5 @@ impl ObjectNumber {
         ensures { result ≡ self.0 * record_words }
     {
         (self.0 as usize) * sizes::RECORD_WORDS
-    }
-
-    // Whether two objects are the same.
-    pub fn is(self, other: ObjectNumber) -> bool
-        ensures { result ≡ eqb self.0 other.0 }
-    {
-        self.0 == other.0
     }
 }

@@ -1,4 +1,5 @@
 -- What LOOKUP answers: the range around a base, and the reply to each reading of a descriptor.
+use Rattle.std.specs.Prelude.{Ok, Err}
 use Prim.Native.Nat.{ℕ, ◌+◌, ◌*◌, ◌%◌, ◌^◌, ◌≤◌, ◌<◌}
 use mathlib.Core.Path.{◌≡◌, ◌∙◌}
 use mathlib.Core.Bool.{true, false}
@@ -14,7 +15,7 @@ use Rattle.words.proofs.SizeLaws.{selectors_few}
 use Rattle.words.proofs.PlaceLaws.{start_rises}
 use Rattle.descriptor.specs.declared.Range.{Range}
 use Rattle.descriptor.specs.declared.Reading.TheVariants.{Null, Malformed, Good}
-use Rattle.reply.specs.declared.Reply.TheVariants.{Success, BadPar}
+use Rattle.reply.specs.declared.Refusal.TheVariants.{BadPar}
 use Rattle.descriptor.specs.Descriptors.{Proper, describe, reading}
 use Rattle.interface.specs.Places.{Cap, State, live, domain_word, cap_at, view}
 use Rattle.interface.specs.Verdicts.{Call, reply_of}
@@ -71,15 +72,15 @@ module _ {places : List ℕ} {domain first selector : ℕ} {range : Range} {cap 
 
 -- the reply to each reading of a descriptor
 module _ (s : State) {descriptor : ℕ} where
-  pub null_answer : reading descriptor ≡ Null → (c : Call) → c.first ≡ descriptor → Success 0 ≡ reply_of (lookup s c)
+  pub null_answer : reading descriptor ≡ Null → (c : Call) → c.first ≡ descriptor → Ok 0 ≡ reply_of (lookup s c)
   unfolding lookup found
   null_answer e c is_first = rw (is_first, e)
 
-  pub malformed_answer : reading descriptor ≡ Malformed → (c : Call) → c.first ≡ descriptor → BadPar ≡ reply_of (lookup s c)
+  pub malformed_answer : reading descriptor ≡ Malformed → (c : Call) → c.first ≡ descriptor → Err BadPar ≡ reply_of (lookup s c)
   unfolding lookup
   malformed_answer e c is_first = rw (is_first, e)
 
   pub good_answer : {caller domain answer : ℕ} {range : Range} → reading descriptor ≡ Good range → domain ≡ s.objects caller domain_word →
-      answer ≡ found s domain (Good range) → (c : Call) → c.caller ≡ caller → c.first ≡ descriptor → Success answer ≡ reply_of (lookup s c)
+      answer ≡ found s domain (Good range) → (c : Call) → c.caller ≡ caller → c.first ≡ descriptor → Ok answer ≡ reply_of (lookup s c)
   unfolding lookup
   good_answer e is_domain is_answer c is_caller is_first = rw (is_answer, is_domain, is_caller, is_first, e)

@@ -1,18 +1,18 @@
 -- Laws of the ranges that LOOKUP looks for, place by place and order by order.
 use Prim.Native.Nat.{ℕ, zero, suc, ◌+◌, ◌-◌, ◌^◌, ◌≤◌, ◌<◌}
-use mathlib.Core.Path.{◌≡◌, sym, ◌∙◌}
-use mathlib.Core.Bool.{Bool, true, false, ◌&&◌}
-use native.Mathlib.Nat.{mod-lt}
+use mathlib.Core.Path.{◌≡◌, refl, sym}
+use mathlib.Core.Bool.{Bool, true, false, ◌&&◌, and-true, and_assoc}
+use native.Mathlib.Nat.{mod-lt, add-zero}
 use native.Mathlib.Omega.{arith}
 use lib.Dec.{eqb}
 use lib.Pow.{pow_pos}
 use Rattle.words.specs.Ranges.{rounded}
 use Rattle.words.proofs.RangeLaws.{rounded_divides, range_ends}
+use Rattle.std.specs.List.{list_all, range_with_len}
 use Rattle.interface.specs.Basics.{all_below}
 use Rattle.interface.specs.Places.{Cap, live}
 use Rattle.interface.specs.Lookup.{uniform, largest}
-use Rattle.interface.proofs.Basics.BoolLaws.{false_not}
-use Rattle.interface.proofs.Basics.LoopLaws.{all_below_more, all_below_broken}
+use Rattle.interface.proofs.Basics.LoopLaws.{all_below_none, so_far_more}
 
 -- a range around a selector ends in its space, and the selector lies in it
 pub around_ends : (greatest order selector : ℕ) → order ≤ greatest → selector < 2 ^ greatest → rounded order selector + 2 ^ order ≤ 2 ^ greatest
@@ -37,26 +37,20 @@ pub record Around (caps : ℕ → Cap) (selector order low size permissions reso
   pub is_resource_lem : resource ≡ (caps low).resource
 
 module _ {caps : ℕ → Cap} {selector order low size permissions resource : ℕ} (range : Around caps selector order low size permissions resource) where
-  uniform_is : uniform caps selector order ≡ all_below size (continued_at caps low permissions resource)
+  pub uniform_is : uniform caps selector order ≡ all_below size (continued_at caps low permissions resource)
   unfolding uniform
   uniform_is = rw (range.is_permissions, range.is_resource_lem, range.is_size, range.is_low)
 
-  -- an offset whose place does not continue the range
-  pub breaks : {offset : ℕ} {cap : Cap} → offset < size → cap ≡ caps (low + offset) → continued cap permissions resource offset ≡ false →
-      false ≡ uniform caps selector order
-  breaks {offset} {cap} l is_cap f =
-      let holds = continued cap permissions resource offset in
-      all_below_broken (continued_at caps low permissions resource) size offset holds l (rw is_cap) (false_not holds f) ∙ sym uniform_is
+-- a test of the numbers of a range
+module _ (test : ℕ → Bool) where
+  all_from : (n from : ℕ) → (all_below from test && list_all test (range_with_len from n)) ≡ all_below (from + n) test
+  all_from zero from = rw (add-zero from, and-true (all_below from test))
+  all_from (suc n) from =
+      let next : from + suc n ≡ from + 1 + n = omega arith in
+      rw (next, ← all_from n (from + 1), ← so_far_more test from (test from) (all_below from test) refl refl) (sym (and_assoc (all_below from test) (test from) (list_all test (range_with_len (from + 1) n))))
 
-  -- every offset
-  pub all_continue : {offset : ℕ} → offset ≡ size → all_below offset (continued_at caps low permissions resource) ≡ true → true ≡ uniform caps selector order
-  all_continue is_last t = sym (uniform_is ∙ rw is_last at t)
-
-  -- one offset more
-  pub one_more : (offset : ℕ) {cap : Cap} → cap ≡ caps (low + offset) → continued cap permissions resource offset ≡ true →
-      all_below offset (continued_at caps low permissions resource) ≡ true → all_below (offset + 1) (continued_at caps low permissions resource) ≡ true
-  one_more offset {cap} is_cap t before =
-      all_below_more (continued_at caps low permissions resource) offset (continued cap permissions resource offset) before (rw is_cap) (rw t)
+  pub all_of_range : (n : ℕ) → list_all test (range_with_len 0 n) ≡ all_below n test
+  all_of_range n = let e : 0 + n ≡ n = omega arith in rw (all_below_none test, e) at (all_from n 0)
 
 -- the largest order from one on downward: that one, or one of those below it
 module _ (caps : ℕ → Cap) (selector : ℕ) where

@@ -16,7 +16,7 @@ ghost use Rattle.capabilities.specs.Callers.{Called};
 
 use descriptor::{Descriptor, Range, Reading};
 use layout::{Cap, ObjectNumber, Place, Selector};
-use reply::Reply;
+use reply::{Refusal, Reply};
 use words::{ranges, sizes};
 
 // Whether a capability is live, with some permissions and the resource that is an offset past another.
@@ -37,15 +37,10 @@ fn is_uniform(places: &[u32], first: Place, selector: u32, order: u32) -> bool
     let size = ranges::size(order);
     let permissions = places::load(places, first.after(selector)).permissions;
     let resource = places::load(places, first.after(low)).resource;
-    let mut offset = 0;
-    while offset < size {
+    (0..size).all(|offset| {
         let cap = places::load(places, first.after(low + offset));
-        if !continues(cap, permissions, resource, offset) {
-            return false;
-        }
-        offset += 1;
-    }
-    true
+        continues(cap, permissions, resource, offset)
+    })
 }
 
 // The largest order, of at most the greatest of the space, of such a range around a selector, or 0.
@@ -53,12 +48,10 @@ fn largest_order(places: &[u32], first: Place, selector: u32, greatest: u32) -> 
     requires { Sized places.now × (greatest < 32) × (selector < 2 ^ greatest) × (first.0 + 2 ^ greatest ≤ placeCount) }
     ensures { (result ≡ largest (λ k. cap_at places.now (first.0 + k)) selector greatest) × (result ≤ greatest) }
 {
-    let mut order = greatest;
-    while 0 < order {
+    for order in (1..=greatest).rev() {
         if is_uniform(places, first, selector, order) {
             return order;
         }
-        order -= 1;
     }
     0
 }
@@ -86,11 +79,11 @@ pub fn look_up(caller: ObjectNumber, descriptor: u32, places: &[u32], objects: &
     ensures { (c : Call) → c.caller ≡ caller.0 → c.first ≡ descriptor → result ≡ reply_of (lookup (view places.now objects.now) c) }
 {
     match Descriptor::from_word(descriptor).read() {
-        Reading::Null => Reply::Success(Descriptor::NULL.word()),
-        Reading::Malformed => Reply::BadPar,
+        Reading::Null => Ok(Descriptor::NULL.word()),
+        Reading::Malformed => Err(Refusal::BadPar),
         Reading::Good(range) => {
             let domain = capabilities::domain(places, objects, caller);
-            Reply::Success(found(places, domain, range))
+            Ok(found(places, domain, range))
         }
     }
 }

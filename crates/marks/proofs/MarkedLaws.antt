@@ -3,20 +3,22 @@ use Prim.Native.Nat.{ℕ, zero, suc, ◌+◌, ◌-◌, ◌*◌, ◌/◌, ◌%◌
 use mathlib.Core.Path.{◌≡◌, refl, sym, ap, ◌∙◌}
 use mathlib.Core.Bool.{true, false}
 use mathlib.Core.List.{List, [], ◌∷◌, ◌++◌}
-use native.Mathlib.Nat.{le_refl, add-zero, pow-zero, div-one, div-eq_of_lt}
+use native.Mathlib.Nat.{add-zero, pow-zero, pow-suc, div-one}
 use native.Mathlib.Numerals.{add-one, one-add}
 use native.Mathlib.Omega.{arith}
 use lib.Count.{count_trailing_zeros, under, ones, ones_in, ones_step}
 use lib.Dec.{eqb, ltb}
-use lib.ListN.{length, drop, set, length-append, length-set}
+use lib.ListN.{length, take, drop, set, length-append, length-set}
 use lib.Pow.{shr-shr}
-use lib.Seq.{drop-cons, append_snoc, set-append_seam}
+use lib.Seq.{take_all, drop-cons, append_snoc, set-append_seam}
+use Rattle.std.specs.List.{sum_by}
+use Rattle.std.proofs.lemmas.List.Sums.{sum_by_more}
 use borrow.Author.Tests.{ltb-true, ltb-false, eqb-true, eqb-false}
 use Rattle.words.specs.Sizes.{places}
 use Rattle.interface.specs.Basics.{gather, word}
 use Rattle.interface.proofs.Basics.BoolLaws.{cases}
 use Rattle.interface.proofs.Basics.GatherLaws.{gather_more, gather_none, gather_longer, gather_past}
-use Rattle.marks.specs.PlaceBits.{word_bits, mark_words, bit_at, NextMarked, marked_places}
+use Rattle.marks.specs.PlaceBits.{word_bits, mark_words, bit_at, NoneMarked, NextMarked, marked_places}
 
 -- one more number stored behind those at the start of a list
 stored_next : (found list : List ℕ) (n : ℕ) → length found < length list →
@@ -80,7 +82,7 @@ module _ (marks : List ℕ) (number : ℕ) {zeros : ℕ} (is_zeros : zeros ≡ c
         unmarked = λ p low high.
             cases (ltb p number) (λ (t : ltb p number ≡ true). so_far p low (ltb-true p number t))
             (λ (f : ltb p number ≡ false). rest_unmarked (number + zeros) (omega arith) (omega arith) p (ltb-false p number f) high);
-        marked = λ _. rest_marked few;
+        marked = rest_marked few;
       }
 
   pub rest_passed : (from : ℕ) → ((p : ℕ) → from ≤ p → p < number → bit_at marks p ≡ false) → word_bits - number % word_bits ≤ zeros →
@@ -101,12 +103,12 @@ marked_same {marks} {from} {next} found =
     let there : next ≡ from + (next - from) = omega arith in
     rw there (gather_past from (next - from) (bit_at marks) (λ p low high. found.unmarked p low (omega arith)))
 
-module _ {marks : List ℕ} (number : ℕ) {next : ℕ} (here : bit_at marks number ≡ true) (found : NextMarked marks (number + 1) next) where
-  marked_more : marked_below marks next ≡ marked_below marks number ++ (number ∷ [])
-  marked_more = marked_same found ∙ gather_more number (bit_at marks) here
+module _ {marks : List ℕ} {from number : ℕ} (found : NextMarked marks from number) where
+  marked_more : marked_below marks (number + 1) ≡ marked_below marks from ++ (number ∷ [])
+  marked_more = gather_more number (bit_at marks) found.marked ∙ ap (λ (l : List ℕ). l ++ (number ∷ [])) (marked_same found)
 
-  count_more : {count : ℕ} → count ≡ length (marked_below marks number) → count + 1 ≡ length (marked_below marks next)
-  count_more so_far = rw (marked_more, length-append (marked_below marks number) (number ∷ []), so_far)
+  count_more : {count : ℕ} → count ≡ length (marked_below marks from) → count + 1 ≡ length (marked_below marks (number + 1))
+  count_more so_far = rw (marked_more, length-append (marked_below marks from) (number ∷ []), so_far)
 
 -- a bit of a word
 bit_of : (marks : List ℕ) (at n : ℕ) → n < word_bits → bit_at marks (at * word_bits + n) ≡ eqb (word marks at / 2 ^ n % 2) 1
@@ -116,9 +118,14 @@ bit_of marks at n l =
     let place : (at * word_bits + n) % word_bits ≡ n = omega arith in
     rw (there, place)
 
-ones_none : ones 0 ≡ 0
+-- a number's set bits are those of its digits
+ones_all : (digits n : ℕ) → n < 2 ^ digits → ones_in digits n ≡ ones n
 unfolding ones ones_in
-ones_none = refl
+ones_all zero n l = let none : n ≡ 0 = omega arith in rw none
+ones_all (suc digits) n l = rw (ones_all digits (n / 2) (omega (arith, pow-suc 2 digits)), ones_step n)
+
+pub word_ones : {n set : ℕ} → n < 2 ^ word_bits → set ≡ ones n → set ≡ ones_in word_bits n
+word_ones {n} small is_set = is_set ∙ sym (ones_all word_bits n small)
 
 -- the marked places of a word are as many as its set bits
 module _ (marks : List ℕ) (at : ℕ) where
@@ -126,82 +133,74 @@ module _ (marks : List ℕ) (at : ℕ) where
   first = at * word_bits
 
   -- a place more is counted where the lowest bit of what is left of the word is set
-  bit_counted : (n : ℕ) → n < word_bits →
-      length (marked_below marks (first + n + 1)) + ones (word marks at / 2 ^ n / 2) ≡ length (marked_below marks (first + n)) + ones (word marks at / 2 ^ n)
+  bit_counted : (n : ℕ) → n < word_bits → length (marked_below marks (first + n + 1)) ≡ length (marked_below marks (first + n)) + word marks at / 2 ^ n % 2
   bit_counted n l =
       let left = word marks at / 2 ^ n in
       let bit : bit_at marks (first + n) ≡ eqb (left % 2) 1 = bit_of marks at n l in
       cases (eqb (left % 2) 1)
       (λ (t : eqb (left % 2) 1 ≡ true).
-      let more : length (marked_below marks (first + n + 1)) ≡ length (marked_below marks (first + n)) + 1 =
-      rw (gather_more (first + n) (bit_at marks) (bit ∙ t), length-append (marked_below marks (first + n)) ((first + n) ∷ [])) in
-      omega (arith, more, eqb-true (left % 2) 1 t, ones_step left))
+      rw (gather_more (first + n) (bit_at marks) (bit ∙ t), length-append (marked_below marks (first + n)) ((first + n) ∷ [])) (omega (arith, eqb-true (left % 2) 1 t)))
       (λ (f : eqb (left % 2) 1 ≡ false).
-      let same : length (marked_below marks (first + n + 1)) ≡ length (marked_below marks (first + n)) = ap length (gather_none (first + n) (bit_at marks) (bit ∙ f)) in
-      let even = eqb-false (left % 2) 1 f in
-      omega (arith, same, ones_step left))
+      rw (gather_none (first + n) (bit_at marks) (bit ∙ f)) (let even = eqb-false (left % 2) 1 f in omega arith))
 
-  -- those of the first bits are counted, and the others are left in the word
-  bits_counted : (n : ℕ) → n ≤ word_bits → length (marked_below marks (first + n)) + ones (word marks at / 2 ^ n) ≡ length (marked_below marks first) + ones (word marks at)
-  bits_counted zero l = rw (add-zero first, pow-zero 2, div-one (word marks at))
-  bits_counted (suc n) l =
-      let next : first + suc n ≡ first + n + 1 = omega arith in
+  -- the bits from one on
+  bits_counted : (left n : ℕ) → n + left ≡ word_bits → length (marked_below marks (first + n + left)) ≡ length (marked_below marks (first + n)) + ones_in left (word marks at / 2 ^ n)
+  unfolding ones_in
+  bits_counted zero n l = rw (add-zero (first + n)) (omega arith)
+  bits_counted (suc left) n l =
+      let next : first + n + suc left ≡ first + suc n + left = omega arith in
+      let one : first + suc n ≡ first + n + 1 = omega arith in
       let half : word marks at / 2 ^ suc n ≡ word marks at / 2 ^ n / 2 = rw (← add-one n) (sym (shr-shr (word marks at) n 1)) in
-      rw (next, half) (bit_counted n (omega arith) ∙ bits_counted n (omega arith))
+      rw (next, bits_counted left (suc n) (omega arith), one, bit_counted n (omega arith), half) (omega arith)
 
-  pub count_word_lem : {count more : ℕ} → count ≡ length (marked_below marks first) → more ≡ ones (word marks at) → word marks at < 2 ^ word_bits →
-      count + more ≡ length (marked_below marks ((at + 1) * word_bits))
-  count_word_lem so_far is_more small =
-      let none : word marks at / 2 ^ word_bits ≡ 0 = div-eq_of_lt small in
-      let all = rw none at (bits_counted word_bits (le_refl word_bits)) in
+  word_counted : length (marked_below marks ((at + 1) * word_bits)) ≡ length (marked_below marks (at * word_bits)) + ones_in word_bits (word marks at)
+  word_counted =
+      let all = rw (add-zero first, pow-zero 2, div-one (word marks at)) at (bits_counted word_bits 0 refl) in
       let next : (at + 1) * word_bits ≡ first + word_bits = omega arith in
-      rw (next, so_far, is_more) (omega (arith, all, ones_none))
+      rw next all
 
-pub count_none : (marks : List ℕ) → 0 ≡ length (marked_below marks 0)
+-- those of the first words, and of all
+words_counted : (marks : List ℕ) (n : ℕ) → n ≤ length marks → sum_by (ones_in word_bits) (take n marks) ≡ length (marked_below marks (n * word_bits))
 unfolding gather
-count_none marks = refl
+words_counted marks zero l = refl
+words_counted marks (suc n) l =
+    rw (← add-one n) (sum_by_more (ones_in word_bits) marks n 0 (omega arith) ∙ rw (words_counted marks n (omega arith)) (sym (word_counted marks n)))
 
--- past the last word all are counted
-pub count_all : (marks : List ℕ) (at : ℕ) {count : ℕ} → count ≡ length (marked_below marks (at * word_bits)) → at ≡ mark_words → count ≡ length (marked_places marks)
-count_all marks at so_far all = rw all at so_far
+pub all_counted : (marks : List ℕ) → length marks ≡ mark_words → sum_by (ones_in word_bits) marks ≡ length (marked_places marks)
+all_counted marks long = ap (sum_by (ones_in word_bits)) (sym (take_all mark_words marks (omega arith))) ∙ words_counted marks mark_words (omega arith)
 
 -- a list that begins with the marked places that are below a number, and otherwise is as it was
-pub record Filled (marks : List ℕ) (number count : ℕ) (before list : List ℕ) : Type 0 where
-  pub counted : count ≡ length (marked_below marks number)
+pub record Filled (marks : List ℕ) (from count : ℕ) (before list : List ℕ) : Type 0 where
+  pub counted : count ≡ length (marked_below marks from)
   pub as_long : length list ≡ length before
-  pub shows : list ≡ marked_below marks number ++ drop count before
+  pub shows : list ≡ marked_below marks from ++ drop count before
 
-pub filled_none : {marks : List ℕ} {next : ℕ} (list : List ℕ) → NextMarked marks 0 next → Filled marks next 0 list list
+pub filled_none : {marks : List ℕ} {from count : ℕ} (list : List ℕ) → from ≡ 0 → count ≡ 0 → Filled marks from count list list
 unfolding gather
-filled_none list found = record { counted = rw (marked_same found); as_long = refl; shows = rw (marked_same found) }
+filled_none list begins none = rw (begins, none) (record { counted = refl; as_long = refl; shows = refl })
 
-module _ {marks : List ℕ} {number count : ℕ} {before list : List ℕ} (so_far : Filled marks number count before list) where
+module _ {marks : List ℕ} {from count : ℕ} {before list : List ℕ} (so_far : Filled marks from count before list) where
   -- a list with room for the marked places has room for the next of them
-  pub filled_room : number < places → length (marked_places marks) ≤ length before → bit_at marks number ≡ true → count < length list
-  filled_room l fits here =
-      let one_more : length (marked_below marks (number + 1)) ≡ length (marked_below marks number) + 1 =
-      rw (gather_more number (bit_at marks) here, length-append (marked_below marks number) (number ∷ [])) in
-      omega (
-        arith,
-        so_far.as_long,
-        so_far.counted,
-        gather_longer (number + 1) (bit_at marks) places (omega arith),
-        one_more,
-      )
+  pub filled_room : {number : ℕ} → NextMarked marks from number → length (marked_places marks) ≤ length before → count < length list
+  filled_room {number} found fits =
+      omega (arith, so_far.as_long, count_more found so_far.counted, gather_longer (number + 1) (bit_at marks) places (omega (arith, found.ends)))
 
-  pub filled_more : {next : ℕ} → count < length list → bit_at marks number ≡ true → NextMarked marks (number + 1) next →
-      Filled marks next (count + 1) before (set list count number)
-  filled_more l here found =
+  pub filled_more : {number : ℕ} → NextMarked marks from number → count < length list → Filled marks (number + 1) (count + 1) before (set list count number)
+  filled_more {number} found l =
       let counted = so_far.counted in
-      let next_count = count_more number here found counted in
+      let next_count = count_more found counted in
       record {
         counted = next_count;
         as_long = length-set list count number ∙ so_far.as_long;
         shows =
-            rw (next_count, marked_more number here found, so_far.shows, counted)
-            (stored_next (marked_below marks number) before number (rw (← counted, ← so_far.as_long) l));
+            rw (next_count, marked_more found, so_far.shows, counted)
+            (stored_next (marked_below marks from) before number (rw (← counted, ← so_far.as_long) l));
       }
 
-  -- past the last place the list shows all
-  pub filled_all : number ≡ places → list ≡ marked_places marks ++ drop (length (marked_places marks)) before
-  filled_all all = rw (so_far.counted, all) at so_far.shows
+  -- where none is left the list shows all
+  pub filled_all : from ≤ places → NoneMarked marks from → list ≡ marked_places marks ++ drop (length (marked_places marks)) before
+  filled_all inside none =
+      let there : places ≡ from + (places - from) = omega arith in
+      let all : marked_places marks ≡ marked_below marks from =
+      rw there (gather_past from (places - from) (bit_at marks) (λ p low high. none.unmarked p low (omega arith))) in
+      rw (all, ← so_far.counted) so_far.shows

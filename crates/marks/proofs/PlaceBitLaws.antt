@@ -7,7 +7,7 @@ use native.Mathlib.Nat.{one-mul, div-eq_of_lt, zero-div, pow-suc}
 use native.Mathlib.Omega.{arith}
 use lib.Bits.{bit_or, or_step, or_shr}
 use lib.Dec.{eqb, leb, ltb}
-use lib.ListN.{length, set, replicate, length-set}
+use lib.ListN.{length, set, replicate}
 use lib.Pow.{pow-lt, pow-add, shl-shr, shl_exact}
 use lib.Seq.{get_or-set_same, get_or-set_other}
 use borrow.Author.Tests.{ltb-true, ltb-false, eqb-true, eqb-false, eq-eqb, ne_eqb, lt-ltb, le-ltb, leb-true, le-leb}
@@ -56,7 +56,6 @@ set_one words number is_asked fits =
     shl_exact 1 (number % word_bits) word_bits (omega arith) (omega arith) ∙ one-mul (2 ^ (number % word_bits)) in
     rw (is_asked, shifted)
     (record {
-      as_long = length-set words at value;
       bits = λ other.
           cases (eqb (other / word_bits) at)
           (λ (t : eqb (other / word_bits) at ≡ true).
@@ -72,8 +71,8 @@ set_one words number is_asked fits =
           rw (get_or-set_other words at (other / word_bits) value 0 apart, ne_eqb other number (λ (e : other ≡ number). apart (ap (λ (n : ℕ). n / word_bits) e))));
     })
 
-pub set_none : {asked : Bool} (words : List ℕ) (number : ℕ) → asked ≡ false → SetIf asked words number words
-set_none words number not_asked = record { as_long = refl; bits = λ other. rw not_asked }
+pub set_none : {asked : Bool} (marks : List ℕ) (number : ℕ) → asked ≡ false → SetIf asked marks number marks
+set_none marks number not_asked = record { bits = λ other. rw not_asked }
 
 -- no bit of words that are 0 is set
 no_word : (n i : ℕ) → word (replicate n 0) i ≡ 0
@@ -110,7 +109,6 @@ module _ (asked : Bool) (before : List ℕ) (first : ℕ) where
   pub range_none : RangeToo asked before first 0 before
   range_none =
       record {
-        as_long = refl;
         bits = λ p.
             let none : among first 0 p ≡ false =
             cases (leb first p) (λ (t : leb first p ≡ true). let from = leb-true first p t in rw (t, le-ltb p (first + 0) (omega arith)))
@@ -122,7 +120,6 @@ module _ (asked : Bool) (before : List ℕ) (first : ℕ) where
       RangeToo asked before first (offset + 1) after
   range_more offset so_far is_place made =
       record {
-        as_long = made.as_long ∙ so_far.as_long;
         bits = λ p.
             rw (made.bits p, so_far.bits p, is_place, among_more first offset p)
             (range_step asked (eqb p (first + offset)) (bit_at before p) (among first offset p));

@@ -2,7 +2,7 @@
 use Prim.Native.Nat.{ℕ}
 use mathlib.Core.Path.{◌≡◌, ap₂, ◌∙◌}
 use mathlib.Core.List.{List}
-use Rattle.reply.specs.declared.Reply.{Reply}
+use Rattle.reply.specs.Replies.{Reply}
 use Rattle.interface.specs.Places.{tables}
 use Rattle.interface.specs.Verdicts.{CALL}
 use Rattle.interface.specs.Outcomes.{call_of, outcome, answered}

@@ -2,3 +2,4 @@
 pub mod CountingLaws
 pub mod GreatestLaws
 pub mod RecordTableLaws
+pub mod WalkLaws

@@ -1,23 +1,22 @@
 -- Laws of the object table: the table of some records shows them, and a store in a table changes one record.
-use Prim.Native.Nat.{ℕ, zero, suc, ◌+◌, ◌*◌, ◌/◌, ◌%◌, ◌≤◌, ◌<◌}
+use Prim.Native.Nat.{ℕ, zero, suc, ◌+◌, ◌-◌, ◌*◌, ◌/◌, ◌%◌, ◌≤◌, ◌<◌}
 use mathlib.Core.Path.{◌≡◌, refl, sym, ap, ◌∙◌, fun_ext}
 use mathlib.Core.Bool.{true, false}
 use mathlib.Core.Logic.{◌≢◌}
 use mathlib.Core.List.{List, [], ◌∷◌, ◌++◌}
 use native.Mathlib.Omega.{arith}
-use lib.Dec.{eqb, ltb, eqb-suc-suc}
-use lib.ListN.{length, set, replicate, length-set, get_or-eq_default}
+use lib.Dec.{eqb, ltb}
+use lib.ListN.{length, set, take, drop, replicate, length-set, length-drop, length-append, get_or-append, get_or-eq_default}
+use Rattle.std.proofs.lemmas.List.{get_or-take, get_or-drop, get_or-append_right, length-take-le}
 use lib.Seq.{ext_get_or, get_or-set_same, get_or-set_other}
-use borrow.Author.Tests.{eqb-true, eqb-false, ltb-true, ltb-false, ne_eqb, lt-ltb, le-ltb}
+use borrow.Author.Tests.{eqb-true, eqb-false, ltb-true, ltb-false, lt-ltb}
 use Rattle.words.specs.Sizes.{records, record_words}
-use Rattle.std.specs.Prelude.{if◌then◌else◌}
 use Rattle.interface.specs.Basics.{word, put}
-use Rattle.interface.specs.Places.{State, nothing, kind_word, object_table_words, object_at, record_table}
-use Rattle.interface.proofs.Basics.BoolLaws.{cases, either_way}
+use Rattle.interface.specs.Places.{State, nothing, object_table_words, object_at, record_table}
+use Rattle.interface.proofs.Basics.BoolLaws.{cases}
 use Rattle.interface.proofs.Basics.PutLaws.{put_same, put_other}
 use Rattle.interface.proofs.Tables.TableLaws.{length_listed, word_listed, words_past, records_past, record_table_back, shown_tables}
-use Rattle.objects.specs.declared.Record.{Record}
-use Rattle.objects.specs.Records.{Sized, words_of, stored_word}
+use Rattle.objects.specs.Records.{Sized, stored_word}
 
 -- records end where the object table does
 pub record RecordsEnd (objects : ℕ → ℕ → ℕ) : Type 0 where
@@ -71,17 +70,6 @@ WordsEnd row = (i : ℕ) → record_words ≤ i → row i ≡ 0
 
 pub words_end : (words : List ℕ) → length words ≤ record_words → WordsEnd (word words)
 words_end words short i l = get_or-eq_default words 0 (omega arith)
-
--- a value put after some words is the next of them
-next_at : (words : List ℕ) (value i : ℕ) → put (word words) (length words) value i ≡ word (words ++ (value ∷ [])) i
-unfolding put
-next_at [] value zero = refl
-next_at [] value (suc i) = rw (ne_eqb (suc i) 0 (λ e. omega arith))
-next_at (first ∷ words) value zero = rw (ne_eqb 0 (suc (length words)) (λ e. omega arith))
-next_at (first ∷ words) value (suc i) = rw (eqb-suc-suc i (length words)) (next_at words value i)
-
-put_next : (words : List ℕ) (value : ℕ) → put (word words) (length words) value ≡ word (words ++ (value ∷ []))
-put_next words value = fun_ext (next_at words value)
 
 pub put_record_end : (objects : ℕ → ℕ → ℕ) (number : ℕ) (row : ℕ → ℕ) → number < records → RecordsEnd objects → WordsEnd row →
     RecordsEnd (put objects number row)
@@ -151,97 +139,43 @@ word_stored table number index value size small l =
     let objects = object_at table in
     stored objects number (objects number) index value {table = table} small l (rw (put_back objects number) (sym (record_table_back table size)))
 
--- a word stored in a record that has a row already
-module _ (objects : ℕ → ℕ → ℕ) (number : ℕ) (row : ℕ → ℕ) where
-  put_again : (other : ℕ → ℕ) → put (put objects number row) number other ≡ put objects number other
-  put_again other =
-      fun_ext
-      (λ r.
-      cases (eqb r number)
-      (λ (t : eqb r number ≡ true). rw (eqb-true r number t, put_same (put objects number row) number other, put_same objects number other))
-      (λ (f : eqb r number ≡ false).
-      let apart = eqb-false r number f in
-      put_other (put objects number row) number other r apart ∙ put_other objects number row r apart ∙ sym (put_other objects number other r apart)))
-
-  stored_more : (index value : ℕ) → number < records → RecordsEnd objects → WordsEnd row →
-      stored_word (record_table (put objects number row)) number index value ≡ record_table (put objects number (put row index value))
-  stored_more index value l ends row_ends =
-      rw (
-        object_at_table (put objects number row) (put_record_end objects number row l ends row_ends),
-        put_same objects number row,
-        put_again (put row index value),
-      )
-
--- a row with 0 for its words below a number
-abbrev cleared_below : (ℕ → ℕ) → ℕ → ℕ → ℕ
-cleared_below row index i = if ltb i index then 0 else row i
-
-cleared_next : (row : ℕ → ℕ) (index : ℕ) → put (cleared_below row index) index 0 ≡ cleared_below row (index + 1)
-cleared_next row index =
-    fun_ext
-    (λ i.
-    cases (eqb i index)
-    (λ (t : eqb i index ≡ true).
-    let e = eqb-true i index t in
-    rw (e, put_same (cleared_below row index) index 0, lt-ltb index (index + 1) (omega arith)))
-    (λ (f : eqb i index ≡ false).
-    let apart = eqb-false i index f in
-    put_other (cleared_below row index) index 0 i apart ∙
-    cases (ltb i index)
-    (λ (t : ltb i index ≡ true). let l = ltb-true i index t in rw (t, lt-ltb i (index + 1) (omega arith)))
-    (λ (g : ltb i index ≡ false). let l = ltb-false i index g in rw (g, le-ltb i (index + 1) (omega (arith, apart))))))
-
--- a table that is another with the words of a record below a number cleared
-pub record Cleared (before : List ℕ) (number index : ℕ) (table : List ℕ) : Type 0 where
-  pub size : Sized table
-  pub so_far : table ≡ record_table (put (object_at before) number (cleared_below (object_at before number) index))
-
--- clearing a record word by word, and then storing words in it
-module _ (before : List ℕ) (number : ℕ) (size : Sized before) where
-  pub cleared_none : Cleared before number 0 before
-  cleared_none =
-      let all : cleared_below (object_at before number) 0 ≡ object_at before number = fun_ext (λ i. rw (le-ltb i 0 (omega arith))) in
-      record { size = size; so_far = rw (all, put_back (object_at before) number) (sym (record_table_back before size)) }
-
-  pub cleared_more : (index : ℕ) {table after : List ℕ} → number < records → Cleared before number index table → after ≡ stored_word table number index 0 →
-      Cleared before number (index + 1) after
-  cleared_more index {table} l c is_after =
-      let objects = object_at before in
-      let ends = object_at_end before size in
-      let row = cleared_below (objects number) index in
-      let row_ends : WordsEnd row = λ i o. either_way (λ (w : ℕ). w ≡ 0) (ltb i index) 0 (objects number i) refl (ends.words_end number i o) in
-      record {
-        size = rw is_after (length_record_table (put (object_at table) number (put (object_at table number) index 0)));
-        so_far = rw (is_after, c.so_far) (stored_more objects number row index 0 l ends row_ends ∙ ap (λ (w : ℕ → ℕ). record_table (put objects number w)) (cleared_next (objects number) index));
-      }
-
-  pub cleared_all : (index : ℕ) {table : List ℕ} → record_words ≤ index → Cleared before number index table →
-      table ≡ record_table (put (object_at before) number (word []))
-  cleared_all index past c =
-      let row = cleared_below (object_at before number) index in
-      c.so_far ∙
-      record_table_same (put (object_at before) number row) (put (object_at before) number (word []))
-      (λ r i l k. put_agrees (object_at before) number row (word []) r i (λ same. rw (lt-ltb i index (omega arith))))
-
-  -- the word after some words of a record whose other words are 0
-  next_word : (words : List ℕ) (value : ℕ) {table after : List ℕ} → number < records → length words ≤ record_words →
-      table ≡ record_table (put (object_at before) number (word words)) → after ≡ stored_word table number (length words) value →
-      after ≡ record_table (put (object_at before) number (word (words ++ (value ∷ []))))
-  next_word words value l short e s =
-      rw (s, e)
-      (stored_more (object_at before) number (word words) (length words) value l (object_at_end before size) (words_end words short) ∙
-      ap (λ (row : ℕ → ℕ). record_table (put (object_at before) number row)) (put_next words value))
-
-  -- the stores of a new object's words in turn
-  pub made : (words : Record) {none one two three four five : List ℕ} → number < records →
-      none ≡ record_table (put (object_at before) number (word [])) → one ≡ stored_word none number kind_word words.0 →
-      two ≡ stored_word one number 1 words.1 → three ≡ stored_word two number 2 words.2 → four ≡ stored_word three number 3 words.3 →
-      five ≡ stored_word four number 4 words.4 → five ≡ record_table (put (object_at before) number (word (words_of words)))
-  made words l e a b c d f =
-      next_word (words.0 ∷ words.1 ∷ words.2 ∷ words.3 ∷ []) words.4 l (omega arith)
-      (next_word (words.0 ∷ words.1 ∷ words.2 ∷ []) words.3 l (omega arith)
-      (next_word (words.0 ∷ words.1 ∷ []) words.2 l (omega arith)
-      (next_word (words.0 ∷ []) words.1 l (omega arith) (next_word [] words.0 l (omega arith) e a) b) c) d) f
+-- a table with the words of a record copied into it
+pub copied : (table words : List ℕ) (number : ℕ) → Sized table → number < records → length words ≡ record_words →
+    take (number * record_words) table ++ words ++ drop (number * record_words + record_words) table ≡ record_table (put (object_at table) number (word words))
+copied table words number size l long =
+    let start = number * record_words in
+    let before = take start table in
+    let after = drop (start + record_words) table in
+    let before_long : length before ≡ start = length-take-le start table (omega arith) in
+    let front_long : length (before ++ words) ≡ start + record_words = length-append before words ∙ omega arith in
+    let after_long : length after ≡ length table - (start + record_words) = length-drop (start + record_words) table in
+    let whole : length (before ++ words ++ after) ≡ object_table_words = length-append (before ++ words) after ∙ omega arith in
+    table_is (put (object_at table) number (word words)) (before ++ words ++ after) whole
+    (λ i o.
+    let r = i / record_words in
+    let k = i % record_words in
+    let there : r * record_words + k ≡ i = omega arith in
+    cases (eqb r number)
+    (λ (t : eqb r number ≡ true).
+    let same : r ≡ number = eqb-true r number t in
+    let inside : i < length (before ++ words) = omega arith in
+    let past : start ≤ i = omega arith in
+    let index : i - start ≡ k = omega arith in
+    rw (same, put_same (object_at table) number (word words))
+    (get_or-append (before ++ words) after 0 i inside ∙ get_or-append_right before words start i 0 before_long past ∙ rw index))
+    (λ (f : eqb r number ≡ false).
+    let apart = eqb-false r number f in
+    let kept : word table i ≡ object_at table r k = rw there at (object_at_word table r k (omega arith)) in
+    rw (put_other (object_at table) number (word words) r apart)
+    (cases (ltb i start)
+    (λ (b : ltb i start ≡ true).
+    let early : i < start = ltb-true i start b in
+    get_or-append (before ++ words) after 0 i (omega arith) ∙ get_or-append before words 0 i (omega arith) ∙ get_or-take start table i 0 early ∙ kept)
+    (λ (g : ltb i start ≡ false).
+    let late : start ≤ i = ltb-false i start g in
+    let beyond : start + record_words ≤ i = omega (arith, apart) in
+    let back : start + record_words + (i - (start + record_words)) ≡ i = omega arith in
+    get_or-append_right (before ++ words) after (start + record_words) i 0 front_long beyond ∙ get_or-drop (start + record_words) table (i - (start + record_words)) 0 ∙ rw back kept))))
 
 -- zeros after a list of words change none of them
 pub short_words : (words : List ℕ) (zeros : ℕ) → word (words ++ replicate zeros 0) ≡ word words

@@ -10,10 +10,10 @@ ghost use Rattle.interface.specs.Damage.{pds_below};
 ghost use Rattle.interface.specs.Creations.{free_record};
 ghost use Rattle.objects.specs.Records.{Sized, records_in, words_of, stored_word};
 
-use layout::{FoundObject, ObjectNumber};
+use layout::ObjectNumber;
 use words::sizes;
 
-// The kinds of objects, and that of a free record.
+// The kinds of objects, and that of a free record: numbers, since a table's words may hold anything. A new object's kind is the first of its words.
 pub const FREE: u32 = 0;
 
 pub const PD: u32 = 1;
@@ -102,12 +102,12 @@ pub fn load(table: &[u32], number: ObjectNumber, index: usize) -> u32
     table[number.words_start() + index]
 }
 
-// A word of the record that a capability's resource names, or 0 for a resource past the records.
+// A word of the record that a capability's resource names, or 0 for a resource past the records, as `object_at` has it: who asks compares a kind, and 0 is none.
 pub fn load_named(table: &[u32], resource: u32, index: usize) -> u32
     requires { Sized table.now × (index < record_words) }
     ensures { result ≡ object_at table.now resource index }
 {
-    let FoundObject::Numbered(number) = ObjectNumber::found(resource) else {
+    let Some(number) = ObjectNumber::found(resource) else {
         return 0;
     };
     load(table, number, index)
@@ -122,27 +122,14 @@ pub fn set(table: &mut [u32], number: ObjectNumber, index: usize, value: u32)
     table[at] = value;
 }
 
-// Stores 0 in each word of a record.
-fn clear(table: &mut [u32], number: ObjectNumber)
-    requires { Sized table.old × (number.0 < records) }
-    ensures { table.new ≡ record_table (put (object_at table.old) number.0 (word [])) }
-{
-    for index in 0..sizes::RECORD_WORDS {
-        set(table, number, index, 0);
-    }
-}
-
-// Stores the words of a new object, and 0 in the others of its record.
+// Stores the words of a new object.
 pub fn make(table: &mut [u32], number: ObjectNumber, words: Record)
     requires { Sized table.old × (number.0 < records) }
     ensures { table.new ≡ record_table (put (object_at table.old) number.0 (word (words_of words))) }
 {
-    clear(table, number);
-    set(table, number, KIND, words.0);
-    set(table, number, 1, words.1);
-    set(table, number, 2, words.2);
-    set(table, number, 3, words.3);
-    set(table, number, 4, words.4);
+    let start = number.words_start();
+    let row = [words.0, words.1, words.2, words.3, words.4];
+    table[start..start + sizes::RECORD_WORDS].copy_from_slice(&row);
 }
 
 // Stores a semaphore's count.
@@ -154,19 +141,16 @@ pub fn set_count(table: &mut [u32], number: ObjectNumber, value: u32)
 }
 
 // The lowest free record, if one is free.
-pub fn free_record(table: &[u32]) -> FoundObject
+pub fn free_record(table: &[u32]) -> Option<ObjectNumber>
     requires { Sized table.now }
     ensures { result ≡ numbered (free_record (records_in table.now)) }
 {
-    let mut number = 0u32;
-    while number < sizes::RECORDS {
-        let record = ObjectNumber::counted(number);
-        if load(table, record, KIND) == FREE {
-            return FoundObject::Numbered(record);
-        }
-        number += 1;
+    let first = (0..sizes::RECORDS).find(|&at| load(table, ObjectNumber::counted(at), KIND)
+        == FREE);
+    match first {
+        Some(number) => Some(ObjectNumber::counted(number)),
+        None => None,
     }
-    FoundObject::Beyond
 }
 
 // The number of PDs before a record.
@@ -174,13 +158,7 @@ pub fn pds_below(table: &[u32], number: u32) -> u32
     requires { Sized table.now × (number ≤ records) }
     ensures { result ≡ pds_below (records_in table.now) number }
 {
-    let mut count = 0u32;
-    let mut at = 0u32;
-    while at < number {
-        if load(table, ObjectNumber::counted(at), KIND) == PD {
-            count += 1;
-        }
-        at += 1;
-    }
-    count
+    (0..number)
+        .filter(|&at| load(table, ObjectNumber::counted(at), KIND) == PD)
+        .count() as u32
 }

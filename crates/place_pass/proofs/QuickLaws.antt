@@ -1,5 +1,6 @@
 -- The shorter test: where domain 0 is as at boot and the records keep their rules, every place passes it exactly where every place keeps the rules.
-use Prim.Native.Nat.{ℕ, zero, suc, ◌+◌, ◌-◌, ◌*◌, ◌≤◌, ◌<◌}
+use Rattle.std.specs.Prelude.{Option, Some, None}
+use Prim.Native.Nat.{ℕ, zero, suc, ◌+◌, ◌-◌, ◌*◌, ◌/◌, ◌%◌, ◌≤◌, ◌<◌}
 use mathlib.Core.Path.{◌≡◌, refl, sym, ap, ◌∙◌}
 use mathlib.Core.Bool.{Bool, true, false, true≢false, not, ◌&&◌, ◌||◌, or-false, and_comm}
 use mathlib.Core.List.{List}
@@ -10,8 +11,6 @@ use Rattle.words.specs.Sizes.{object, stride, domain_of, space_of, places, recor
 use Rattle.words.proofs.BitLaws.{within_le}
 use Rattle.interface.specs.Basics.{all_below}
 use Rattle.layout.specs.declared.Place.{Place}
-use Rattle.layout.specs.declared.FoundPlace.{FoundPlace}
-use Rattle.layout.specs.declared.FoundPlace.TheVariants.{At, Nowhere}
 use Rattle.layout.specs.Numbers.{linked}
 use Rattle.layout.proofs.NumberLaws.{linked_inside}
 use Rattle.interface.specs.Places.{Cap, State, Tables, live, nothing, free, cap_at, shown, kind_of, greatest_of, greatest, places_in}
@@ -19,13 +18,14 @@ use Rattle.interface.specs.Boot.{hypervisor}
 use Rattle.interface.specs.Damage.{same_cap, fixed_place, has_pd, null_place, is_resource, parentless_place, live_place, shallow, parent_fits}
 use Rattle.interface.proofs.Basics.BoolLaws.{cases, and_left, and_right, same_test, each_of_four}
 use Rattle.interface.proofs.Basics.BelowLaws.{all_below_at, all_below_lem}
-use Rattle.interface.proofs.Basics.LoopLaws.{answered_yes, answered_no}
 use Rattle.interface.proofs.Sound.PlaceFacts.{same_cap_lem, null_cap, null_test, depth_small, ChildOf, child_facts, child_test, Lineage, no_parent, child, LivePlace, live_facts, live_test}
 use Rattle.record_rules.specs.RecordKeeping.{Kept}
 use Rattle.place_rules.specs.PlaceKeeping.{place_keeps, blank}
 use Rattle.place_rules.proofs.PlaceTests.{link_before, link_past, past_hypervisor, fixed_past, parent_past, place_parts}
 use Rattle.place_rules.proofs.BlankLaws.{blank_null, null_blank}
-use Rattle.place_pass.specs.PassKeeping.{quick_keeps, group}
+use Rattle.std.specs.List.{list_all, range_with_len}
+use Rattle.record_rules.proofs.TailLaws.{from_range, from_at, from_so}
+use Rattle.place_pass.specs.PassKeeping.{quick_keeps, group, run}
 use Rattle.place_pass.proofs.GroupLaws.{domain_without_pd}
 use Rattle.place_pass.proofs.BootPlaceLaws.{hypervisor_below}
 
@@ -67,7 +67,7 @@ module _ (s : State) (p : ℕ) (past : stride ≤ p) (cap : Cap) (held : cap ≡
 
   -- and those of a domain with a PD
   module _ (space : ℕ) (alive : cap.permissions ≡ 0 → ⊥) (in_space : space ≡ space_of p) (at_home : true ≡ homely s p) where
-    pub child_at_home : (fits : Bool) (found : FoundPlace) (parent : Place) → found ≡ linked cap.parent → found ≡ At parent →
+    pub child_at_home : (fits : Bool) (found : (Option Place)) (parent : Place) → found ≡ linked cap.parent → found ≡ Some parent →
         fits ≡ parent_fits s space cap parent.0 → (leb cap.depth greatest_depth && fits) ≡ quick_keeps s p
     child_at_home fits found parent is_found leads is_fits =
         let some : cap.parent ≡ 0 → ⊥ = λ none. omega (arith, (linked_inside cap.parent parent (sym is_found ∙ leads)).0) in
@@ -75,7 +75,7 @@ module _ (s : State) (p : ℕ) (past : stride ≤ p) (cap : Cap) (held : cap ≡
         quick_child space true alive in_space at_home fits some (rw (link_before cap.parent parent is_found leads) at is_fits)
 
     -- no place is a parent past the last, so a place that is no child has no parent or breaks the rules
-    pub root_at_home : (named : Bool) (found : FoundPlace) → found ≡ linked cap.parent → found ≡ Nowhere →
+    pub root_at_home : (named : Bool) (found : (Option Place)) → found ≡ linked cap.parent → found ≡ None →
         named ≡ (ltb cap.resource records && leb cap.permissions (greatest_of (kind_of s cap.resource))) →
         (eqb cap.parent 0 && eqb space object && eqb cap.depth 0 && named) ≡ quick_keeps s p
     root_at_home named found is_found no_child is_named =
@@ -263,30 +263,21 @@ quick_decides tables kept fixed =
 pub quick_start : (s : State) → all_below stride (quick_keeps s) ≡ true
 quick_start s = all_below_lem stride (quick_keeps s) (quick_early s)
 
--- a run of null places goes on with those of a blank one, up to the end
-abbrev pub Nulls : List ℕ → ℕ → ℕ → Type 0
-Nulls table first end = (p : ℕ) → first ≤ p → p < end → cap_at table p ≡ nothing
-
-module _ (table : List ℕ) (first : ℕ) where
-  pub nulls_none : Nulls table first first
-  nulls_none p from before = absurd (omega arith)
-
-  pub nulls_more : (at count : ℕ) (answer : Bool) → Nulls table first at → answer ≡ blank table at count → not answer ≡ false → Nulls table first (at + count)
-  nulls_more at count answer nulls asked f p from before =
-      cases (ltb p at) (λ (t : ltb p at ≡ true). nulls p from (ltb-true p at t))
-      (λ (g : ltb p at ≡ false). blank_null table at count p (ltb-false p at g) before (answered_yes answer (blank table at count) asked f))
-
-  pub nulls_broken : (end at count : ℕ) (answer : Bool) → first ≤ at → at + count ≤ end → answer ≡ blank table at count → not answer ≡ true →
-      false ≡ blank table first (end - first)
-  nulls_broken end at count answer from within asked f =
-      cases (blank table first (end - first))
-      (λ (t : blank table first (end - first) ≡ true).
-      answered_no answer (blank table at count) asked f
-      (null_blank table at count (λ p past before. blank_null table first (end - first) p (omega arith) (omega arith) t)))
-      (λ (g : blank table first (end - first) ≡ false). sym g)
-
-  pub nulls_done : (end at : ℕ) → end ≤ at → Nulls table first at → true ≡ blank table first (end - first)
-  nulls_done end at late nulls = sym (null_blank table first (end - first) (λ p from before. nulls p from (omega arith)))
+-- places are blank exactly where each run of them is
+pub runs_decide : (table : List ℕ) (first : ℕ) → first ≤ places → first % run ≡ 0 →
+    list_all (λ k. blank table (run * k) run) (range_with_len (first / run) (places / run - first / run)) ≡ blank table first (places - first)
+runs_decide table first inside aligned =
+    let each : ℕ → Bool = λ k. blank table (run * k) run in
+    let count = places / run in
+    from_range count (first / run) each (omega arith) ∙
+    same_test (all_below count (λ k. ltb k (first / run) || each k)) (blank table first (places - first))
+    (λ h.
+    null_blank table first (places - first)
+    (λ p from before.
+    blank_null table (run * (p / run)) run p (omega arith) (omega arith) (from_at count each (first / run) h (p / run) (omega arith) (omega arith))))
+    (λ h.
+    from_so count each (first / run)
+    (λ k past b. null_blank table (run * k) run (λ p from before. blank_null table first (places - first) p (omega arith) (omega arith) h)))
 
 -- places that begin with one that has a permission are not blank
 pub live_not_blank : (table : List ℕ) (first : ℕ) (cap : Cap) → cap ≡ cap_at table first → (cap.permissions ≡ 0 → ⊥) → false ≡ blank table first group

@@ -10,7 +10,7 @@ ghost use Rattle.record_rules.specs.RecordKeeping.{Kept};
 ghost use Rattle.place_rules.specs.PlaceKeeping.{place_keeps, extent_of, blank, Around};
 ghost use Rattle.place_pass.specs.PassKeeping.{quick_keeps, group, run, Passed};
 
-use layout::{Cap, FoundPlace, Place};
+use layout::{Cap, Place};
 use place_rules::Extent;
 use words::sizes;
 
@@ -25,10 +25,8 @@ fn names_object(objects: &[u32], cap: Cap) -> bool
     requires { length objects.now ≡ object_table_words }
     ensures { result ≡ (ltb cap.resource records && leb cap.permissions (greatest_of (object_at objects.now cap.resource kind_word))) }
 {
-    if sizes::RECORDS <= cap.resource {
-        return false;
-    }
-    cap.permissions <= objects::greatest_of(record_rules::kind_of(objects, cap.resource))
+    (cap.resource < sizes::RECORDS)
+        && (cap.permissions <= objects::greatest_of(record_rules::kind_of(objects, cap.resource)))
 }
 
 // Whether a place of a domain with a PD passes the shorter test.
@@ -38,9 +36,9 @@ fn quick_keeps(table: &[u32], objects: &[u32], place: u32, extent: Extent) -> bo
 {
     let cap = place_rules::cap_at(table, place);
     if cap.permissions == 0 {
-        return place_rules::is_same(cap, places::without_parent(0, 0));
+        return cap == places::without_parent(0, 0);
     }
-    let FoundPlace::At(parent) = Place::linked(cap.parent) else {
+    let Some(parent) = Place::linked(cap.parent) else {
         return (cap.parent == 0)
             & (extent.space == sizes::OBJECT)
             & (cap.depth == 0)
@@ -54,14 +52,7 @@ fn rest_is_blank(table: &[u32], first: u32) -> bool
     requires { (length table.now ≡ place_table_words) × (first ≤ places) × (first % run ≡ 0) }
     ensures { result ≡ blank table.now first (places - first) }
 {
-    let mut at: u32 = first;
-    while at < sizes::PLACES {
-        if !place_rules::is_blank(table, at, RUN) {
-            return false;
-        }
-        at += RUN;
-    }
-    true
+    (first / RUN..sizes::PLACES / RUN).all(|run| place_rules::is_blank(table, RUN * run, RUN))
 }
 
 // Whether all words of a group's places are 0. A group that begins with a live place is told by that place alone.
@@ -69,10 +60,8 @@ fn group_is_blank(table: &[u32], first: u32) -> bool
     requires { (length table.now ≡ place_table_words) × (first + group ≤ places) }
     ensures { result ≡ blank table.now first group }
 {
-    if place_rules::cap_at(table, first).permissions != 0 {
-        return false;
-    }
-    place_rules::is_blank(table, first, GROUP)
+    (place_rules::cap_at(table, first).permissions == 0)
+        && place_rules::is_blank(table, first, GROUP)
 }
 
 // Whether the places up to the end of a group of a domain with a PD pass the shorter test, where those before it do. A group lies in one space of one domain.
@@ -84,15 +73,7 @@ fn group_keeps(table: &[u32], objects: &[u32], first: u32) -> bool
         return true;
     }
     let extent = place_rules::extent_of(place_rules::space_of(first));
-    let end = first + GROUP;
-    let mut at: u32 = first;
-    while at < end {
-        if !quick_keeps(table, objects, at, extent) {
-            return false;
-        }
-        at += 1;
-    }
-    true
+    (first..first + GROUP).all(|at| quick_keeps(table, objects, at, extent))
 }
 
 // Whether each place keeps the rules, where the records keep theirs and domain 0 is as at boot. The domains without a PD come last, and are null.
@@ -101,12 +82,11 @@ pub fn places_keep(table: &[u32], objects: &[u32], pds: u32) -> bool
     ensures { result ≡ all_below places (place_keeps (view table.now objects.now)) }
 {
     let end = sizes::STRIDE * (pds + 1);
-    let mut first: u32 = sizes::STRIDE;
-    while first < end {
-        if !group_keeps(table, objects, first) {
+    // A group is asked only where all before it pass (Passed), which a closure of `all` could not say.
+    for group in sizes::STRIDE / GROUP..end / GROUP {
+        if !group_keeps(table, objects, GROUP * group) {
             return false;
         }
-        first += GROUP;
     }
     rest_is_blank(table, end)
 }

@@ -1,39 +1,49 @@
 -- The rules of places as the code tests them: what each definition gives on each way out of the function that tests it.
+use Rattle.std.specs.Prelude.{Option, Some, None}
 use Prim.Native.Nat.{ℕ, ◌+◌, ◌-◌, ◌*◌, ◌%◌, ◌^◌, ◌≤◌, ◌<◌}
-use mathlib.Core.Path.{◌≡◌, sym, ap, ◌∙◌}
-use mathlib.Core.Bool.{Bool, true, false, not, ◌&&◌, ◌||◌, and-false}
+use mathlib.Core.Path.{◌≡◌, refl, sym, ap, ◌∙◌}
+use mathlib.Core.Bool.{Bool, true, false, ◌&&◌, ◌||◌, and-false}
 use native.Mathlib.Omega.{arith}
 use lib.Dec.{eqb, leb, ltb}
-use borrow.Author.Tests.{ltb-true, ltb-false, leb-true, leb-false, lt-ltb, le-ltb, le-leb, lt-leb, eqb-true, eqb-false, eq-eqb, ne_eqb, not-false}
+use borrow.Author.Tests.{ltb-true, leb-true, leb-false, lt-ltb, le-ltb, le-leb, lt-leb, eqb-true, eqb-false, eq-eqb, ne_eqb}
 use Rattle.words.specs.Sizes.{memory, io, object, spaces, page_order, selectors, start, stride, place_of, domain_of, space_of, places, records, greatest_depth}
 use Rattle.words.specs.Permissions.{within}
 use Rattle.words.proofs.PlaceLaws.{space_back, made_so, selector_small}
 use Rattle.layout.specs.declared.Place.{Place}
-use Rattle.layout.specs.declared.FoundPlace.{FoundPlace}
-use Rattle.layout.specs.declared.FoundPlace.TheVariants.{At, Nowhere}
 use Rattle.layout.specs.Numbers.{linked}
 use Rattle.layout.proofs.NumberLaws.{linked_out, linked_inside}
 use Rattle.interface.specs.Places.{Cap, State, live, nothing, free, kind_of, greatest_of, greatest}
 use Rattle.interface.specs.Boot.{hypervisor, boot_cap}
 use Rattle.interface.specs.Damage.{same_cap, fixed_place, has_pd, null_place, is_resource, live_place, shallow, parent_fits, lineage_keeps}
-use Rattle.interface.proofs.Basics.BoolLaws.{cases, and_left, and_right, both, same_test, or_none_left, or_none_right, each_of_four}
+use Rattle.interface.proofs.Basics.BoolLaws.{cases, and_left, and_right, both, same_test, each_of_four}
 use Rattle.interface.proofs.Sound.PlaceFacts.{more_live}
 use Rattle.place_rules.specs.PlaceKeeping.{greatest_allowed, place_keeps, whole, part, parts_before, extent_of}
 use Rattle.place_rules.specs.declared.Extent.{Extent}
 
+-- two capabilities are equal exactly where they show the same
+and_in_turn : (w x y z : Bool) → (w && (x && (y && z))) ≡ (w && x && y && z)
+and_in_turn false x y z = refl
+and_in_turn true false y z = refl
+and_in_turn true true y z = refl
+
+pub equal_same : (a b : Cap) →
+    (eqb a.resource b.resource && (eqb a.permissions b.permissions && (eqb a.parent b.parent && eqb a.depth b.depth))) ≡ same_cap a b
+equal_same a b =
+    and_in_turn (eqb a.resource b.resource) (eqb a.permissions b.permissions) (eqb a.parent b.parent) (eqb a.depth b.depth)
+
 -- a link word that leads to a place is one more than its number, and one that leads nowhere is 0 or past the places
-module _ (word : ℕ) {found : FoundPlace} where
-  pub link_before : (parent : Place) → found ≡ linked word → found ≡ At parent → parent.0 ≡ word - 1
+module _ (word : ℕ) {found : (Option Place)} where
+  pub link_before : (parent : Place) → found ≡ linked word → found ≡ Some parent → parent.0 ≡ word - 1
   link_before parent is_found leads = omega (arith, (linked_inside word parent (sym is_found ∙ leads)).0)
 
-  pub link_past : (word ≡ 0 → ⊥) → found ≡ linked word → found ≡ Nowhere → places ≤ word - 1
+  pub link_past : (word ≡ 0 → ⊥) → found ≡ linked word → found ≡ None → places ≤ word - 1
   link_past some is_found none =
       cases (leb word places)
       (λ (t : leb word places ≡ true). absurd (some (linked_out word (sym is_found ∙ none) (leb-true word places t))))
       (λ (f : leb word places ≡ false). omega (arith, leb-false word places f))
 
 -- a place that a link word leads to is one of the places
-pub link_small : (word : ℕ) (parent : Place) (found : FoundPlace) → found ≡ linked word → found ≡ At parent → parent.0 < places
+pub link_small : (word : ℕ) (parent : Place) (found : (Option Place)) → found ≡ linked word → found ≡ Some parent → parent.0 < places
 link_small word parent found is_found leads = (linked_inside word parent (sym is_found ∙ leads)).1
 
 -- the parts of its domain that come before a place are those of the places before it and fewer than one place's more, so they tell its space
@@ -155,13 +165,13 @@ module _ (s : State) (p : ℕ) where
         let none : eqb (s.caps p).parent 0 ≡ true = rw held at (eq-eqb cap.parent 0 e) in
         rw (none, held, a, first_stride p)
 
-    pub lineage_parent : (space : ℕ) (fits : Bool) (found : FoundPlace) (parent : Place) → (cap.parent ≡ 0 → ⊥) → space ≡ space_of p →
-        found ≡ linked cap.parent → found ≡ At parent → fits ≡ parent_fits s space cap parent.0 → fits ≡ lineage_keeps s p
+    pub lineage_parent : (space : ℕ) (fits : Bool) (found : (Option Place)) (parent : Place) → (cap.parent ≡ 0 → ⊥) → space ≡ space_of p →
+        found ≡ linked cap.parent → found ≡ Some parent → fits ≡ parent_fits s space cap parent.0 → fits ≡ lineage_keeps s p
     lineage_parent space fits found parent n a is_found leads h =
         let some : eqb (s.caps p).parent 0 ≡ false = rw held at (ne_eqb cap.parent 0 n) in
         (rw (link_before cap.parent parent is_found leads) at h) ∙ rw (a, held, some)
 
-    pub lineage_nowhere : (space : ℕ) (found : FoundPlace) → (cap.parent ≡ 0 → ⊥) → space ≡ space_of p → found ≡ linked cap.parent → found ≡ Nowhere →
+    pub lineage_nowhere : (space : ℕ) (found : (Option Place)) → (cap.parent ≡ 0 → ⊥) → space ≡ space_of p → found ≡ linked cap.parent → found ≡ None →
         false ≡ lineage_keeps s p
     lineage_nowhere space found n a is_found none =
         let some : eqb (s.caps p).parent 0 ≡ false = rw held at (ne_eqb cap.parent 0 n) in
@@ -186,22 +196,23 @@ module _ (s : State) (p : ℕ) where
       bound_there : (is_resource s (space_of p) cap.resource && leb cap.permissions (greatest (space_of p) (kind_of s cap.resource))) ≡ leb cap.permissions most
       bound_there = allowed_so s (space_of p) cap.resource cap.permissions alive ∙ rw (bound, in_space)
 
-      pub live_out : (not home || ltb most cap.permissions) ≡ true → false ≡ live_place s p
+      pub live_out : (home && leb cap.permissions most) ≡ false → (home && leb cap.permissions most) ≡ live_place s p
       unfolding live_place
       live_out h =
+          h ∙
           rw (← held, lt-ltb 0 cap.permissions alive, ← at_home)
           (cases home
           (λ (t : home ≡ true).
-          let above : most < cap.permissions = ltb-true most cap.permissions (rw t at h) in
-          rw (t, bound_there, lt-leb cap.permissions most above))
+          let above : leb cap.permissions most ≡ false = rw t at h in
+          rw (t, bound_there, above))
           (λ (f : home ≡ false). rw f))
 
-      pub live_lineage : (lineage : Bool) → (not home || ltb most cap.permissions) ≡ false → lineage ≡ lineage_keeps s p → lineage ≡ live_place s p
+      pub live_lineage : (lineage : Bool) → (home && leb cap.permissions most) ≡ true → lineage ≡ lineage_keeps s p → lineage ≡ live_place s p
       unfolding live_place
       live_lineage lineage kept h =
-          let is_home : home ≡ true = not-false home (or_none_left (not home) (ltb most cap.permissions) kept) in
-          let within_bound : cap.permissions ≤ most = ltb-false most cap.permissions (or_none_right (not home) (ltb most cap.permissions) kept) in
-          h ∙ rw (← held, lt-ltb 0 cap.permissions alive, ← at_home, is_home, bound_there, le-leb cap.permissions most within_bound)
+          let is_home : home ≡ true = and_left home (leb cap.permissions most) kept in
+          let within_bound : leb cap.permissions most ≡ true = and_right home (leb cap.permissions most) kept in
+          h ∙ rw (← held, lt-ltb 0 cap.permissions alive, ← at_home, is_home, bound_there, within_bound)
 
 -- a place that keeps the rules together keeps each
 module _ (s : State) where

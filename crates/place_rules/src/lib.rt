@@ -8,7 +8,7 @@ ghost use Rattle.interface.specs.Damage.{same_cap, fixed_place, live_place, pare
 ghost use Rattle.record_rules.specs.RecordKeeping.{records_in};
 ghost use Rattle.place_rules.specs.PlaceKeeping.{greatest_allowed, extent_of, blank, Around};
 
-use layout::{Cap, FoundPlace, Place};
+use layout::{Cap, Place};
 use words::{permissions, sizes};
 
 // A domain is cut into as many parts as a word has values, so that a product that wraps takes whole domains off: these parts, and those of one place, rounded up.
@@ -62,16 +62,6 @@ fn is_of_space(place: Place, extent: Extent) -> bool
     (extent.from <= before) & (before < extent.end)
 }
 
-// Whether two places show the same.
-pub fn is_same(a: Cap, b: Cap) -> bool
-    ensures { result ≡ same_cap a b }
-{
-    (a.resource == b.resource)
-        & (a.permissions == b.permissions)
-        & (a.parent == b.parent)
-        & (a.depth == b.depth)
-}
-
 // Rule 2: domain 0 is as at boot.
 pub fn fixed_keeps(table: &[u32], place: u32) -> bool
     requires { (length table.now ≡ place_table_words) × (place < places) }
@@ -80,30 +70,26 @@ pub fn fixed_keeps(table: &[u32], place: u32) -> bool
     if sizes::STRIDE <= place {
         return true;
     }
-    is_same(cap_at(table, place), boot::boot_cap(Place::counted(place)))
+    cap_at(table, place) == boot::boot_cap(Place::counted(place))
 }
 
 // Rule 10: a null place is all 0.
 pub fn null_keeps(cap: Cap) -> bool
     ensures { result ≡ (live cap || same_cap cap nothing) }
 {
-    (0 < cap.permissions) | is_same(cap, places::without_parent(0, 0))
+    (0 < cap.permissions) | (cap == places::without_parent(0, 0))
 }
 
-// Whether the words of so many places from one on are all 0.
+// Whether the words of so many places from one on are all 0. Each is looked at, without leaving early, so that the compiler makes vector code.
 pub fn is_blank(table: &[u32], first: u32, count: u32) -> bool
     requires { (length table.now ≡ place_table_words) × (first + count ≤ places) }
     ensures { result ≡ blank table.now first count }
 {
     let start = sizes::PLACE_WORDS * (first as usize);
-    let words = sizes::PLACE_WORDS * (count as usize);
-    let mut is_0 = true;
-    let mut i: usize = 0;
-    while i < words {
-        is_0 = is_0 & (table[start + i] == 0);
-        i += 1;
-    }
-    is_0
+    let end = start + sizes::PLACE_WORDS * (count as usize);
+    table[start..end]
+        .iter()
+        .fold(true, |blank, &word| blank & (word == 0))
 }
 
 // Whether a place may be the parent of a capability in a space. A place that has the capability's permissions is live.
@@ -126,7 +112,7 @@ fn lineage_keeps(table: &[u32], place: u32, space: u32, cap: Cap) -> bool
     if cap.parent == 0 {
         return (cap.depth == 0) & ((space == sizes::OBJECT) | (place < sizes::STRIDE));
     }
-    let FoundPlace::At(parent) = Place::linked(cap.parent) else {
+    let Some(parent) = Place::linked(cap.parent) else {
         return false;
     };
     parent_fits(table, extent_of(space), cap, parent)
@@ -161,10 +147,8 @@ pub fn live_keeps(
     requires { Around (tables table.now objects.now) place space home × (cap ≡ cap_at table.now place) × (0 < cap.permissions) }
     ensures { result ≡ live_place (view table.now objects.now) place }
 {
-    if !home | (greatest_allowed(objects, space, cap.resource) < cap.permissions) {
-        return false;
-    }
-    lineage_keeps(table, place, space, cap)
+    (home & (cap.permissions <= greatest_allowed(objects, space, cap.resource)))
+        && lineage_keeps(table, place, space, cap)
 }
 
 // Rule 11, of a place that may be null.

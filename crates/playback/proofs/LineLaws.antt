@@ -22,9 +22,9 @@ pub stop_of_found : (left : List ℕ) (next : Found) → next ≡ found_in left 
 stop_of_found left next found = ap stop_of found ∙ stop_lines_lem (beginning left)
 
 -- no line, or one, written where it was found
-pub stop_none : (next told : Found) {out after : List ℕ} {at end : ℕ} → next ≡ told → stop_of told ≡ [] → Wrote out at [] after end → Wrote out at (spelled_lines (stop_of next)) after end
+pub stop_none : (next : Found) {out after : List ℕ} {at end : ℕ} → stop_of next ≡ [] → Wrote out at [] after end → Wrote out at (spelled_lines (stop_of next)) after end
 unfolding spelled_lines
-stop_none next told is_told none wrote = wrote_same (sym (ap (λ (f : Found). spelled_lines (stop_of f)) is_told ∙ ap spelled_lines none)) wrote
+stop_none next none wrote = wrote_same (sym (ap spelled_lines none)) wrote
 
 pub stop_one : (next told : Found) (line : Line) {out after : List ℕ} {at end : ℕ} → next ≡ told → stop_of told ≡ line ∷ [] → Wrote out at (spelled line) after end →
     Wrote out at (spelled_lines (stop_of next)) after end

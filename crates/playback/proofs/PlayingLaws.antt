@@ -1,8 +1,9 @@
 -- Records played in turn with their lines, and what a whole journal comes to.
+use Rattle.std.specs.Result.{is_err}
 use Prim.Native.Nat.{ℕ, ◌+◌, ◌-◌, ◌≤◌, ◌<◌, zero-le}
 use mathlib.Core.Path.{◌≡◌, refl, sym, ap, ◌∙◌, subst}
 use mathlib.Core.Logic.{◌⊎◌, inl, inr}
-use mathlib.Core.Bool.{true, false}
+use mathlib.Core.Bool.{true, false, true≢false}
 use mathlib.Core.List.{List, [], ◌∷◌, ◌++◌, map, map-append, append-nil}
 use native.Mathlib.Nat.{add-zero, zero-add}
 use native.Mathlib.Omega.{arith}
@@ -10,8 +11,7 @@ use lib.ListN.{length, take, drop, length-map, length-append, take-append-drop}
 use lib.Dec.{ltb}
 use lib.Seq.{take_at, take-append-le}
 use borrow.Author.Tests.{ltb-true, ltb-false}
-use Rattle.reply.specs.declared.Reply.{Reply}
-use Rattle.reply.specs.Replies.{status_of}
+use Rattle.reply.specs.Replies.{Reply, status_of}
 use Rattle.interface.specs.Places.{Tables, sized, tables_of, tables}
 use Rattle.interface.specs.Boot.{boot}
 use Rattle.interface.specs.Damage.{sound}
@@ -203,16 +203,15 @@ module _ {places objects places_after objects_after : List ℕ} {reply : Reply} 
   abbrev before_boot : Tables
   before_boot = tables places objects
 
-  pub boot_refused : (status_of reply ≡ 0 → ⊥) → (sized before_boot ≡ false) × (tables places_after objects_after ≡ before_boot)
+  pub boot_refused : is_err reply ≡ true → (sized before_boot ≡ false) × (tables places_after objects_after ≡ before_boot)
   unfolding boot_reply boot_tables
   boot_refused refused =
       cases (sized before_boot)
-      (λ (t : sized before_boot ≡ true). absurd (refused (ap status_of booted.replies ∙ rw t)))
+      (λ (t : sized before_boot ≡ true). absurd (true≢false (sym refused ∙ ap is_err booted.replies ∙ rw t)))
       (λ (f : sized before_boot ≡ false). (f, booted.leaves ∙ rw f))
 
-  pub boot_done : status_of reply ≡ 0 → (sized before_boot ≡ true) × (tables places_after objects_after ≡ tables_of boot)
+  pub boot_done : is_err reply ≡ false → (sized before_boot ≡ true) × (tables places_after objects_after ≡ tables_of boot)
   unfolding boot_reply boot_tables
   boot_done done =
       cases (sized before_boot) (λ (t : sized before_boot ≡ true). (t, booted.leaves ∙ rw t))
-      (λ (f : sized before_boot ≡ false).
-      let status : status_of reply ≡ 17 = ap status_of booted.replies ∙ rw f in absurd (omega arith))
+      (λ (f : sized before_boot ≡ false). absurd (true≢false (sym (ap is_err booted.replies ∙ rw f) ∙ done)))

@@ -1,5 +1,5 @@
 -- Records found in bytes, played with their lines, and a whole journal replayed from boot on.
-use Rattle.std.specs.Prelude.{ℕ, ◌+◌, ◌*◌, ◌≤◌, ◌<◌, ◌≡◌, ◌⊎◌, Bool, true, false, List, [], ◌∷◌, length, take, drop}
+use Rattle.std.specs.Prelude.{ℕ, ◌+◌, ◌*◌, ◌≤◌, ◌<◌, ◌≡◌, ◌⊎◌, Bool, true, false, List, [], ◌∷◌, Result, Ok, Err, length, take, drop}
 use Rattle.interface.specs.Places.{Tables, sized}
 use Rattle.interface.specs.Demand.{LentOut, tables_after_all, from_boot, history_of}
 use Rattle.interface.specs.Journal.{Line, short, unknown, spelled_lines, Beginning, empty, of_no_kind, cut_off, whole, beginning, contents, recorded, lines_from, replay}
@@ -9,7 +9,8 @@ use Rattle.playback.specs.declared.Found.{Found}
 use Rattle.playback.specs.declared.Found.TheVariants.{Nothing, Unknown, Short, Whole}
 use Rattle.playback.specs.declared.Played.{Played}
 use Rattle.playback.specs.declared.Replayed.{Replayed}
-use Rattle.playback.specs.declared.Replayed.TheVariants.{Complete, TooShort, OtherLengths}
+use Rattle.playback.specs.declared.Unfinished.{Unfinished}
+use Rattle.playback.specs.declared.Unfinished.TheVariants.{TooShort, OtherLengths}
 
 -- what some bytes begin with, as the code tells it: of a whole record its kind and the length of its body
 abbrev pub found_of : Beginning → Found
@@ -65,12 +66,12 @@ pub record Replays (journal : List ℕ) (records : ℕ) (lines : List Line) (tex
 
 -- what replaying comes to: all records and all lines, where two of the longest lines fitted after the records' lines; or, in a buffer that is too short for that, the records and
 -- their lines, either all of them or as many until it has no room for one more of the longest lines; tables of other lengths stay, and so does the buffer
-abbrev pub ReplayedAs : Tables → List ℕ → List ℕ → Replayed → Tables → List ℕ → Type 0
-ReplayedAs before journal text (Complete records bytes) after text_after =
-    (sized before ≡ true) × (records ≡ length (recorded journal)) × (length (spelled_lines (take records (replay journal))) + 2 * line_bytes ≤ length text) ×
-    Replays journal records (replay journal) text after text_after bytes
-ReplayedAs before journal text (TooShort records bytes) after text_after =
-    (sized before ≡ true) × (length text < bytes + 2 * line_bytes) × ((records ≡ length (recorded journal)) ⊎ (length text < bytes + line_bytes)) ×
-    Replays journal records (take records (replay journal)) text after text_after bytes
-ReplayedAs before journal text OtherLengths after text_after =
+abbrev pub ReplayedAs : Tables → List ℕ → List ℕ → Result Replayed Unfinished → Tables → List ℕ → Type 0
+ReplayedAs before journal text (Ok done) after text_after =
+    (sized before ≡ true) × (done.records ≡ length (recorded journal)) × (length (spelled_lines (take done.records (replay journal))) + 2 * line_bytes ≤ length text) ×
+    Replays journal done.records (replay journal) text after text_after done.bytes
+ReplayedAs before journal text (Err (TooShort done)) after text_after =
+    (sized before ≡ true) × (length text < done.bytes + 2 * line_bytes) × ((done.records ≡ length (recorded journal)) ⊎ (length text < done.bytes + line_bytes)) ×
+    Replays journal done.records (take done.records (replay journal)) text after text_after done.bytes
+ReplayedAs before journal text (Err OtherLengths) after text_after =
     (sized before ≡ false) × (after ≡ before) × (text_after ≡ text)

@@ -12,11 +12,13 @@ ghost use Rattle.playback.specs.Playing.{found_in, stop_of, Plays, Stops, Replay
 use journal_lines::Line;
 
 // What begins at a position of a journal: nothing, a kind that is none, a record that is short, or a whole one with its kind and the bytes of its body.
+// Four outcomes and no `Result`: a whole record also ends the playing, where the buffer has no room for its line, and is then told as the others are.
 #[derive(Clone, Copy)]
 pub enum Found {
     Nothing,
     Unknown(u8),
     Short,
+    // Its size and not its bytes, so that what was found lends nothing of the buffer.
     Whole(u8, usize),
 }
 
@@ -32,11 +34,17 @@ pub struct Played {
     pub written: usize,
 }
 
-// What replaying a journal comes to: all its records and the bytes of its lines; those for which the buffer had room; or that the tables lent have other lengths.
+// What was replayed of a journal: so many of its records, and the bytes of the lines written.
 #[derive(Clone, Copy)]
-pub enum Replayed {
-    Complete(u64, usize),
-    TooShort(u64, usize),
+pub struct Replayed {
+    pub records: u64,
+    pub bytes: usize,
+}
+
+// Why a journal is not replayed with all its lines: the buffer had room for no more than these, or the tables lent have other lengths.
+#[derive(Clone, Copy)]
+pub enum Unfinished {
+    TooShort(Replayed),
     OtherLengths,
 }
 
@@ -58,7 +66,8 @@ pub fn record_at(journal: &[u8], at: usize) -> Found
     Found::Whole(kind, size)
 }
 
-// Plays the whole records at the front of some bytes, from an index on, and writes their lines into a buffer from a place on, as long as it has room for the longest line.
+// Plays the whole records at the front of some bytes, from an index on, and writes their lines into a buffer from a place on, as long as it has room for the longest line. Each record
+// begins where the one before it ends, which no range counts.
 pub fn play_records(
     input: &[u8],
     mut index: u64,
@@ -67,31 +76,19 @@ pub fn play_records(
     out: &mut [u8],
     mut written: usize,
 ) -> Played
-    requires objects_value { sound (tables places.old objects.old) ≡ true }
-    requires written_in_bounds { (written ≤ length out.old) × (index + length input.now < 2 ^ 64) }
+    requires sound_before { sound (tables places.old objects.old) ≡ true }
+    requires written_inside { written ≤ length out.old }
+    requires count_fits { index + length input.now < 2 ^ 64 }
     ensures plays { Plays (take result.at input.now) (tables places.old objects.old) index out.old written
         (tables places.new objects.new) result.index out.new result.written }
     ensures stops { Stops input.now out.new result }
-    ensures objects_after { sound (tables places.new objects.new) ≡ true }
+    ensures sound_after { sound (tables places.new objects.new) ≡ true }
 {
     let mut at: usize = 0;
-    loop {
-        let next = record_at(input, at);
-        let Found::Whole(kind, size) = next else {
-            return Played {
-                at,
-                next,
-                index,
-                written,
-            };
-        };
+    let mut next = record_at(input, 0);
+    while let Found::Whole(kind, size) = next {
         if out.len() - written < journal_lines::LINE_BYTES {
-            return Played {
-                at,
-                next,
-                index,
-                written,
-            };
+            break;
         }
         let start = at + 1;
         let end = start + size;
@@ -106,6 +103,13 @@ pub fn play_records(
         );
         at = end;
         index += 1;
+        next = record_at(input, at);
+    }
+    Played {
+        at,
+        next,
+        index,
+        written,
     }
 }
 
@@ -118,8 +122,7 @@ fn add_stop_line(next: Found, out: &mut [u8], at: usize) -> usize
     match next {
         Found::Short => recorded_calls::add_line(Line::Cut, out, at),
         Found::Unknown(kind) => recorded_calls::add_line(Line::Bad(kind), out, at),
-        Found::Nothing => at,
-        Found::Whole(_, _) => at,
+        Found::Nothing | Found::Whole(_, _) => at,
     }
 }
 
@@ -134,20 +137,28 @@ pub fn add_last_lines(next: Found, records: u64, out: &mut [u8], at: usize) -> u
 }
 
 // Replays a whole journal from boot on: plays its whole records in turn, up to the first that is short or of no kind, and writes its lines at the front of a buffer.
-pub fn replay(journal: &[u8], places: &mut [u32], objects: &mut [u32], text: &mut [u8]) -> Replayed
+pub fn replay(
+    journal: &[u8],
+    places: &mut [u32],
+    objects: &mut [u32],
+    text: &mut [u8],
+) -> Result<Replayed, Unfinished>
     ensures { ReplayedAs (tables places.old objects.old) journal.now text.old result
         (tables places.new objects.new) text.new }
 {
-    if kernel::boot(places, objects).status() != 0 {
-        return Replayed::OtherLengths;
+    if kernel::boot(places, objects).is_err() {
+        return Err(Unfinished::OtherLengths);
     }
     let played = play_records(journal, 0, places, objects, text, 0);
     let next = played.next;
     let records = played.index;
     let written = played.written;
     if text.len() - written < 2 * journal_lines::LINE_BYTES {
-        return Replayed::TooShort(records, written);
+        return Err(Unfinished::TooShort(Replayed {
+            records,
+            bytes: written,
+        }));
     }
     let bytes = add_last_lines(next, records, text, written);
-    Replayed::Complete(records, bytes)
+    Ok(Replayed { records, bytes })
 }

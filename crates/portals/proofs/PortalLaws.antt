@@ -1,4 +1,5 @@
 -- CALL on tables: what each way out of the code carries, by the values that the code has there.
+use Rattle.std.specs.Prelude.{Ok, Err}
 use Prim.Native.Nat.{ℕ, ◌<◌}
 use mathlib.Core.Path.{◌≡◌, refl, sym, ap, subst, ◌∙◌}
 use mathlib.Core.Logic.{◌≢◌}
@@ -7,9 +8,10 @@ use mathlib.Core.List.{List}
 use lib.Dec.{eqb}
 use lib.ListN.{length}
 use borrow.Author.Tests.{eq-eqb, ne_eqb}
+use Rattle.reply.specs.declared.Refusal.{Refusal}
 use Rattle.words.specs.Sizes.{domains, records, block_words}
-use Rattle.reply.specs.declared.Reply.{Reply}
-use Rattle.reply.specs.declared.Reply.TheVariants.{Success, ComTim, BadCap, BadPar, BadCpu}
+use Rattle.reply.specs.Replies.{Reply}
+use Rattle.reply.specs.declared.Refusal.TheVariants.{ComTim, BadCap, BadPar, BadCpu}
 use Rattle.interface.specs.Basics.{word}
 use Rattle.interface.specs.Places.{Cap, State, PT, ec_word, domain_word, cpu_word, call_bit, object_place, permitted, cap_at, object_at, place_table, object_table, tables, view, places_in}
 use Rattle.interface.specs.Damage.{is_ec}
@@ -35,18 +37,18 @@ abbrev pub named : List ℕ → ℕ → ℕ → ℕ
 named objects caller selector = object_place (object_at objects caller domain_word) selector
 
 -- a refusal leaves the tables and the block
-refused_carries : {places objects : List ℕ} {caller : ℕ} {c : Call} {target : List ℕ} {reply : Reply} → Called places objects caller → c.target ≡ target →
-    portal_call (view places objects) c ≡ refuse reply → Carries c (tables places objects) (tables places objects) target reply
+refused_carries : {places objects : List ℕ} {caller : ℕ} {c : Call} {target : List ℕ} {refusal : Refusal} → Called places objects caller → c.target ≡ target →
+    portal_call (view places objects) c ≡ refuse refusal → Carries c (tables places objects) (tables places objects) target (Err refusal)
 refused_carries called is_target e = record { runs = refused_runs called e; gives = rw e (sym is_target) }
 
 module _ {places objects source target : List ℕ} {caller selector : ℕ} (called : Called places objects caller) where
   -- a block of another length
-  pub source_other : length source ≢ block_words → Answers places objects source target caller selector places target BadPar
+  pub source_other : length source ≢ block_words → Answers places objects source target caller selector places target (Err BadPar)
   unfolding portal_call
   source_other other c is_caller is_selector is_source is_target =
       refused_carries called is_target (rw (is_source, ne_eqb (length source) block_words other))
 
-  pub target_other : length source ≡ block_words → length target ≢ block_words → Answers places objects source target caller selector places target BadPar
+  pub target_other : length source ≡ block_words → length target ≢ block_words → Answers places objects source target caller selector places target (Err BadPar)
   unfolding portal_call
   target_other long other c is_caller is_selector is_source is_target =
       refused_carries called is_target (rw (is_source, is_target, eq-eqb (length source) block_words long, ne_eqb (length target) block_words other))
@@ -60,7 +62,7 @@ pub record Lengths (places objects source target : List ℕ) (caller selector pl
 
 module _ {places objects source target : List ℕ} {caller selector place : ℕ} (k : Lengths places objects source target caller selector place) where
   -- a place without the capability
-  pub not_permitted : permitted (view places objects) place PT call_bit ≡ false → Answers places objects source target caller selector places target BadCap
+  pub not_permitted : permitted (view places objects) place PT call_bit ≡ false → Answers places objects source target caller selector places target (Err BadCap)
   unfolding portal_call
   not_permitted none c is_caller is_selector is_source is_target =
       refused_carries k.called is_target
@@ -130,13 +132,13 @@ module _ {places objects source target : List ℕ} {caller selector place callee
         )
 
   -- the callee is the caller
-  pub calls_itself : callee ≡ caller → Answers places objects source target caller selector places target ComTim
+  pub calls_itself : callee ≡ caller → Answers places objects source target caller selector places target (Err ComTim)
   calls_itself same c is_caller is_selector is_source is_target =
       refused_carries k.lengths.called is_target (left c is_caller is_selector is_source is_target ∙ rw (eq-eqb callee caller same))
 
   module _ (apart : callee ≢ caller) where
     -- the CPUs differ
-    pub other_cpu : object_at objects callee cpu_word ≢ object_at objects caller cpu_word → Answers places objects source target caller selector places target BadCpu
+    pub other_cpu : object_at objects callee cpu_word ≢ object_at objects caller cpu_word → Answers places objects source target caller selector places target (Err BadCpu)
     other_cpu differ c is_caller is_selector is_source is_target =
         refused_carries k.lengths.called is_target
         (left c is_caller is_selector is_source is_target ∙
@@ -144,7 +146,7 @@ module _ {places objects source target : List ℕ} {caller selector place callee
 
     module _ (one_cpu : object_at objects callee cpu_word ≡ object_at objects caller cpu_word) where
       -- the counts do not fit
-      pub too_long : payload_fits (word source 0) ≡ false → Answers places objects source target caller selector places target BadPar
+      pub too_long : payload_fits (word source 0) ≡ false → Answers places objects source target caller selector places target (Err BadPar)
       too_long long c is_caller is_selector is_source is_target =
           refused_carries k.lengths.called is_target
           (left c is_caller is_selector is_source is_target ∙
@@ -154,7 +156,7 @@ module _ {places objects source target : List ℕ} {caller selector place callee
       pub carries : {sender receiver count : ℕ} {after block : List ℕ} → payload_fits (word source 0) ≡ true → sender ≡ object_at objects caller domain_word →
           receiver ≡ object_at objects callee domain_word →
           Transferred places after block (transfer (places_in places) sender receiver source target) count →
-          Answers places objects source target caller selector after block (Success count)
+          Answers places objects source target caller selector after block (Ok count)
       carries {sender} {receiver} {count} {after} {block} fits is_sender is_receiver done c is_caller is_selector is_source is_target =
           let granted : portal_call s c ≡ deliver (moved c).filled (moved c).effects (moved c).block =
           left c is_caller is_selector is_source is_target ∙

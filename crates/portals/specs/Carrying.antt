@@ -1,6 +1,6 @@
 -- What CALL promises on sound tables.
 use Rattle.std.specs.Prelude.{ℕ, ◌≡◌, List}
-use Rattle.reply.specs.declared.Reply.{Reply}
+use Rattle.reply.specs.Replies.{Reply}
 use Rattle.interface.specs.Places.{Tables, shown}
 use Rattle.interface.specs.Verdicts.{Call, block_of}
 use Rattle.interface.specs.Rules.{Runs}

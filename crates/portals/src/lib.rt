@@ -8,7 +8,7 @@ ghost use Rattle.capabilities.specs.Callers.{Called};
 ghost use Rattle.portals.specs.Carrying.{Carries};
 
 use layout::ObjectNumber;
-use reply::Reply;
+use reply::{Refusal, Reply};
 use words::sizes;
 
 // The bit of a portal's permission to be called.
@@ -28,29 +28,29 @@ pub fn call(
         Carries c (tables places.old objects.now) (tables places.new objects.now) target.new result }
 {
     if source.len() != sizes::BLOCK_WORDS {
-        return Reply::BadPar;
+        return Err(Refusal::BadPar);
     }
     if target.len() != sizes::BLOCK_WORDS {
-        return Reply::BadPar;
+        return Err(Refusal::BadPar);
     }
     let sender = capabilities::domain(places, objects, caller);
     let place = capabilities::object_place(sender, selector);
     if !capabilities::is_permitted(places, objects, place, objects::PT, CALL) {
-        return Reply::BadCap;
+        return Err(Refusal::BadCap);
     }
     let portal = ObjectNumber::named_by(places::load(places, place));
     let callee = ObjectNumber::bound_by(objects::load(objects, portal, objects::BOUND_EC));
-    if callee.is(caller) {
-        return Reply::ComTim;
+    if callee == caller {
+        return Err(Refusal::ComTim);
     }
     if objects::load(objects, callee, objects::CPU)
         != objects::load(objects, caller, objects::CPU)
     {
-        return Reply::BadCpu;
+        return Err(Refusal::BadCpu);
     }
     if !blocks::payload_fits(source[0]) {
-        return Reply::BadPar;
+        return Err(Refusal::BadPar);
     }
     let receiver = objects::load(objects, callee, objects::DOMAIN);
-    Reply::Success(transfer::message(places, sender, receiver, source, target))
+    Ok(transfer::message(places, sender, receiver, source, target))
 }

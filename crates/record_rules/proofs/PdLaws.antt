@@ -1,4 +1,5 @@
 -- PDs are numbered 1, 2, .. in the order of their records, so a domain has a PD exactly where it is one of as many numbers as there are PDs.
+use Rattle.std.specs.Prelude.{Some, None}
 use Prim.Native.Nat.{ℕ, ◌+◌, ◌-◌, ◌≤◌, ◌<◌}
 use mathlib.Core.Path.{◌≡◌}
 use mathlib.Core.Bool.{Bool, true, false, ◌&&◌, ◌||◌, and-false}
@@ -7,18 +8,17 @@ use native.Mathlib.Omega.{arith}
 use lib.Dec.{eqb, leb, ltb}
 use borrow.Author.Tests.{ltb-true, leb-true, le-leb, eqb-true, eqb-false}
 use Rattle.words.specs.Sizes.{domains, records}
-use Rattle.interface.specs.Basics.{all_below, any_below}
+use Rattle.interface.specs.Basics.{all_below}
 use Rattle.interface.specs.Places.{Cap, State, object_at, PD, domain_word, kind_of}
 use Rattle.interface.specs.Boot.{hypervisor}
 use Rattle.interface.specs.Damage.{used_first, pds_below, pd_rule, has_pd, between1}
 use Rattle.interface.proofs.Basics.BoolLaws.{and_left, and_right, both, same_test, cases}
 use Rattle.interface.proofs.Basics.BelowLaws.{all_below_at, any_below_at, count_below_past, count_below_reaches}
-use Rattle.interface.proofs.Basics.LoopLaws.{count_below_small, any_below_more}
+use Rattle.interface.proofs.Basics.LoopLaws.{count_below_small}
 use Rattle.interface.proofs.Sound.PlaceFacts.{pd_numbered}
 use Rattle.interface.proofs.Sound.Soundness.{OfRecords}
 use Rattle.interface.proofs.Sound.SoundFacts.{has_pd_lem}
 use Rattle.record_rules.specs.RecordKeeping.{records_in, Numbered, counted_pds}
-use Rattle.record_rules.specs.declared.CountedPds.TheVariants.{InTurn, OutOfTurn}
 
 module _ (s : State) where
   -- there are no more PDs below a record than records
@@ -54,13 +54,6 @@ module _ (s : State) where
     pub home_so : between1 (pds_below s records) domain ≡ has_pd s domain
     home_so = same_test (between1 (pds_below s records) domain) (has_pd s domain) number_has has_number
 
-  -- a search for the PD of a domain, one record further
-  pub pd_found : (r domain kind own : ℕ) (found : Bool) → found ≡ any_below r (λ q. eqb (kind_of s q) PD && eqb (s.objects q domain_word) domain) →
-      kind ≡ kind_of s r → own ≡ s.objects r domain_word →
-      (found || (eqb kind PD && eqb own domain)) ≡ any_below (r + 1) (λ q. eqb (kind_of s q) PD && eqb (s.objects q domain_word) domain)
-  pd_found r domain kind own found h e f =
-      any_below_more (λ q. eqb (kind_of s q) PD && eqb (s.objects q domain_word) domain) r found (eqb kind PD && eqb own domain) h (rw (e, f))
-
   -- the domain asked for may be read from a table
   pub home_own : (own domain : ℕ) (found : Bool) → own ≡ domain → found ≡ has_pd s own → found ≡ has_pd s domain
   home_own own domain found e h = rw e at h
@@ -77,32 +70,32 @@ module _ (s : State) where
   abbrev turning : Bool
   turning = all_below records (used_first s) && all_below records (pd_rule s)
 
-  pub out_of_turn : all_below records (pd_rule s) ≡ false → OutOfTurn ≡ counted_pds s
+  pub out_of_turn : all_below records (pd_rule s) ≡ false → None ≡ counted_pds s
   out_of_turn f = rw (f, and-false (all_below records (used_first s)))
 
-  pub out_of_use : all_below records (used_first s) ≡ false → OutOfTurn ≡ counted_pds s
+  pub out_of_use : all_below records (used_first s) ≡ false → None ≡ counted_pds s
   out_of_use f = rw f
 
-  pub in_turn_lem : (pds : ℕ) → all_below records (used_first s) ≡ true → all_below records (pd_rule s) ≡ true → pds ≡ pds_below s records → InTurn pds ≡ counted_pds s
+  pub in_turn_lem : (pds : ℕ) → all_below records (used_first s) ≡ true → all_below records (pd_rule s) ≡ true → pds ≡ pds_below s records → Some pds ≡ counted_pds s
   in_turn_lem pds u t e = rw (u, t, e)
 
-  pub turns_kept : (pds : ℕ) → counted_pds s ≡ InTurn pds →
+  pub turns_kept : (pds : ℕ) → counted_pds s ≡ Some pds →
       (all_below records (used_first s) ≡ true) × (all_below records (pd_rule s) ≡ true) × (pds ≡ pds_below s records)
   turns_kept pds e =
       cases turning
       (λ (t : turning ≡ true).
-      let same : InTurn (pds_below s records) ≡ InTurn pds = rw t at e in
+      let same : Some (pds_below s records) ≡ Some pds = rw t at e in
       (and_left (all_below records (used_first s)) (all_below records (pd_rule s)) t, and_right (all_below records (used_first s)) (all_below records (pd_rule s)) t, cc))
       (λ (f : turning ≡ false).
-      let wrong : OutOfTurn ≡ InTurn pds = rw f at e in
+      let wrong : None ≡ Some pds = rw f at e in
       let never : ◌≡◌ {A = ℕ} 0 1 = cc in
       absurd (omega arith))
 
-  pub turns_broken : counted_pds s ≡ OutOfTurn → (all_below records (used_first s) && all_below records (pd_rule s)) ≡ false
+  pub turns_broken : counted_pds s ≡ None → (all_below records (used_first s) && all_below records (pd_rule s)) ≡ false
   turns_broken e =
       cases turning
       (λ (t : turning ≡ true).
-      let wrong : InTurn (pds_below s records) ≡ OutOfTurn = rw t at e in
+      let wrong : Some (pds_below s records) ≡ None = rw t at e in
       let never : ◌≡◌ {A = ℕ} 0 1 = cc in
       absurd (omega arith))
       (λ (f : turning ≡ false). f)

@@ -15,8 +15,7 @@ use Rattle.interface.specs.Places.{State, free, PD, EC, SC, PT, SM, kind_of, nam
 use Rattle.interface.specs.Boot.{root, cpus, root_pd, root_ec, root_sc, no_ec, root_priority, root_quantum, boot_record}
 use Rattle.interface.specs.Damage.{fixed_record, interrupt_rule, unnamed_rule, used_first, pds_below, pd_rule, has_pd, is_ec, ec_rule, between1, greatest_priority, greatest_quantum, sc_rule, pt_rule}
 use Rattle.interface.proofs.Basics.BoolLaws.{cases, same_test, not_both, and_left, and_right, each_of_four, or_none_left, or_none_right, not_asked}
-use Rattle.interface.proofs.Basics.BelowLaws.{all_below_at, all_below_lem}
-use Rattle.interface.proofs.Basics.LoopLaws.{so_far_more, so_far_done}
+use Rattle.interface.proofs.Basics.BelowLaws.{all_below_at}
 use Rattle.objects.proofs.RecordTableLaws.{short_words}
 use Rattle.record_rules.specs.RecordKeeping.{clear_from, has_words, record_keeps}
 use Rattle.record_rules.proofs.RecordParts.{record_parts}
@@ -26,15 +25,6 @@ use Rattle.record_rules.proofs.TailLaws.{from_zero, after_four, from_same}
 or_if : (a b : Bool) → (a || b) ≡ (if a then true else b)
 or_if true b = refl
 or_if false b = refl
-
--- the words of a row from an index on, word by word
-module _ (row : ℕ → ℕ) (index : ℕ) where
-  pub clear_none : true ≡ all_below index (λ k. ltb k index || eqb (row k) 0)
-  clear_none = sym (all_below_lem index (λ k. ltb k index || eqb (row k) 0) (λ k l. rw (lt-ltb k index l)))
-
-  pub clear_more : (at value : ℕ) (so_far : Bool) → index ≤ at → so_far ≡ all_below at (λ k. ltb k index || eqb (row k) 0) → value ≡ row at →
-      (so_far && eqb value 0) ≡ all_below (at + 1) (λ k. ltb k index || eqb (row k) 0)
-  clear_more at value so_far l h e = so_far_more (λ k. ltb k index || eqb (row k) 0) at (eqb value 0) so_far h (rw (le-ltb at index l, e))
 
 module _ (s : State) (r : ℕ) where
   -- the tests of an SC
@@ -54,12 +44,6 @@ module _ (s : State) (r : ℕ) where
   -- zeros after a list change nothing
   list_short : (words : List ℕ) (zeros : ℕ) → has_list (words ++ replicate zeros 0) ≡ has_list words
   list_short words zeros = ap (λ (row : ℕ → ℕ). all_below record_words (λ k. eqb (s.objects r k) (row k))) (short_words words zeros)
-
-  -- the words from an index on
-  pub clear_done : (index at : ℕ) (so_far : Bool) → at ≤ record_words → record_words ≤ at → so_far ≡ all_below at (λ k. ltb k index || eqb (s.objects r k) 0) →
-      so_far ≡ clear_from s r index
-  unfolding clear_from
-  clear_done index at so_far l g h = so_far_done (λ k. ltb k index || eqb (s.objects r k) 0) record_words at so_far l g h
 
   -- four words and those after them
   pub has_words_so : (kind first second third a b d e : ℕ) (clear : Bool) → a ≡ kind_of s r → b ≡ s.objects r 1 → d ≡ s.objects r 2 → e ≡ s.objects r 3 →

@@ -1,15 +1,14 @@
 -- Used records come first and free ones are all 0, exactly where the words from the first free one on are 0; then free records past the fixed ones keep the rules.
+use Rattle.std.specs.Prelude.{Option, Some, None}
 use Prim.Native.Nat.{ℕ, zero, suc, ◌+◌, ◌-◌, ◌*◌, ◌/◌, ◌%◌, ◌≤◌, ◌<◌}
 use mathlib.Core.Path.{◌≡◌, refl, sym, ◌∙◌}
-use mathlib.Core.Bool.{Bool, true, false, not, ◌||◌}
+use mathlib.Core.Bool.{Bool, true, false, not}
 use mathlib.Core.List.{List}
 use native.Mathlib.Omega.{arith}
 use lib.Dec.{eqb, leb, ltb}
 use borrow.Author.Tests.{ltb-true, ltb-false, lt-ltb, leb-true, leb-false, eqb-true, eqb-false, eq-eqb, ne_eqb}
 use Rattle.words.specs.Sizes.{records, record_words}
 use Rattle.layout.specs.declared.ObjectNumber.{ObjectNumber}
-use Rattle.layout.specs.declared.FoundObject.{FoundObject}
-use Rattle.layout.specs.declared.FoundObject.TheVariants.{Numbered, Beyond}
 use Rattle.layout.specs.Numbers.{numbered}
 use Rattle.layout.proofs.NumberLaws.{numbered_past, numbered_inside}
 use Rattle.interface.specs.Basics.{word, all_below}
@@ -19,29 +18,22 @@ use Rattle.interface.specs.Damage.{used_first, pds_below, pd_rule}
 use Rattle.interface.specs.Creations.{free_record}
 use Rattle.interface.proofs.Basics.BoolLaws.{cases, not_both, and_left, same_test}
 use Rattle.interface.proofs.Basics.BelowLaws.{all_below_at, all_below_lem}
-use Rattle.interface.proofs.Basics.LoopLaws.{answered_yes, answered_no, so_far_done}
+use Rattle.interface.proofs.Basics.LoopLaws.{answered_yes, answered_no}
 use Rattle.interface.proofs.Sound.SoundObjects.{free_there, used_below_free}
 use Rattle.objects.proofs.CountingLaws.{pds_same}
 use Rattle.record_rules.specs.RecordKeeping.{records_in, clear_from, rest_clear, record_keeps, counted_pds, UsedBefore}
-use Rattle.record_rules.specs.declared.CountedPds.TheVariants.{InTurn, OutOfTurn}
 use Rattle.record_rules.proofs.TailLaws.{from_at, from_so}
 use Rattle.record_rules.proofs.RecordTests.{free_so, used_at_0, used_after, pd_not, free_keeps}
 use Rattle.record_rules.proofs.PdLaws.{out_of_use, in_turn_lem}
 
--- the words looked at, up to the last
-pub rest_done : (table : List ℕ) (r at : ℕ) (so_far : Bool) → at ≤ object_table_words → object_table_words ≤ at →
-    so_far ≡ all_below at (λ i. ltb i (record_words * r) || eqb (word table i) 0) → so_far ≡ rest_clear table r
-unfolding rest_clear
-rest_done table r at so_far l g h = so_far_done (λ i. ltb i (record_words * r) || eqb (word table i) 0) object_table_words at so_far l g h
-
 -- the lowest free record has the used ones before it
-module _ (s : State) (found : FoundObject) (is_found : found ≡ numbered (free_record s)) where
-  pub none_free : found ≡ Beyond → UsedBefore s records
+module _ (s : State) (found : (Option ObjectNumber)) (is_found : found ≡ numbered (free_record s)) where
+  pub none_free : found ≡ None → UsedBefore s records
   none_free e =
       let past : records ≤ free_record s = numbered_past (free_record s) (sym is_found ∙ e) in
       record { few = omega arith; used = λ r l. used_below_free s r (omega arith); then_free = λ l. absurd (omega arith) }
 
-  pub first_free : (first : ObjectNumber) (number : ℕ) → found ≡ Numbered first → number ≡ first.0 → UsedBefore s number
+  pub first_free : (first : ObjectNumber) (number : ℕ) → found ≡ Some first → number ≡ first.0 → UsedBefore s number
   first_free first number e n =
       let (lowest_is, small) = numbered_inside (free_record s) first (sym is_found ∙ e) in
       let same : number ≡ free_record s = omega arith in
@@ -146,7 +138,7 @@ module _ (table : List ℕ) (first : ℕ) where
         let from : first ≤ r = ltb-false r first f in
         sym (free_so s r (kind_of s r) refl true (rest_word zeros r kind_word from l (omega arith)) (sym (rest_record zeros r from l)))))
 
-    pub rest_out : not clear ≡ true → OutOfTurn ≡ counted_pds s
+    pub rest_out : not clear ≡ true → None ≡ counted_pds s
     rest_out f = out_of_use s (rest_broken f)
 
     -- no free record is a PD
@@ -162,7 +154,7 @@ module _ (table : List ℕ) (first : ℕ) where
         rw same at (sym more ∙ rest_pds zeros n past (omega arith)))
         (λ (f : leb first n ≡ false). let past = leb-false first n f in let same : first ≡ suc n = omega arith in rw same)
 
-    pub rest_in : (pds : ℕ) → not clear ≡ false → pds ≡ pds_below s first → all_below first (pd_rule s) ≡ true → InTurn pds ≡ counted_pds s
+    pub rest_in : (pds : ℕ) → not clear ≡ false → pds ≡ pds_below s first → all_below first (pd_rule s) ≡ true → Some pds ≡ counted_pds s
     rest_in pds f counted kept =
         let zeros : rest_clear table first ≡ true = answered_yes clear (rest_clear table first) is_clear f in
         in_turn_lem s pds (rest_used zeros)

@@ -1,12 +1,10 @@
 -- What the functions over records cite beside the rules of damage: the rules of a record taken together, and records whose PDs are numbered and counted.
-use Rattle.std.specs.Prelude.{ℕ, ◌*◌, ◌≤◌, ◌<◌, ◌≡◌, Bool, true, ◌&&◌, ◌||◌, List, [], ◌∷◌, eqb, ltb, length, if◌then◌else◌}
+use Rattle.std.specs.Prelude.{Option, Some, None, ℕ, ◌*◌, ◌≤◌, ◌<◌, ◌≡◌, Bool, true, ◌&&◌, ◌||◌, List, [], ◌∷◌, eqb, ltb, length, if◌then◌else◌}
 use Rattle.words.specs.Sizes.{records, record_words}
 use Rattle.interface.specs.Basics.{word, all_below}
 use Rattle.interface.specs.Places.{State, free, object_table_words, kind_of}
 pub use Rattle.objects.specs.Records.{records_in}
 use Rattle.interface.specs.Damage.{fixed_record, interrupt_rule, unnamed_rule, used_first, pds_below, pd_rule, ec_rule, sc_rule, pt_rule}
-use Rattle.record_rules.specs.declared.CountedPds.{CountedPds}
-use Rattle.record_rules.specs.declared.CountedPds.TheVariants.{InTurn, OutOfTurn}
 
 -- whether a record's words from an index on are 0
 unfoldable pub clear_from : State → ℕ → ℕ → Bool
@@ -25,8 +23,8 @@ unfoldable pub record_keeps : State → ℕ → Bool
 record_keeps s r = fixed_record s r && interrupt_rule s r && unnamed_rule s r && used_first s r && ec_rule s r && sc_rule s r && pt_rule s r
 
 -- how many PDs there are, if each keeps its rule and so do used records and free ones
-abbrev pub counted_pds : State → CountedPds
-counted_pds s = if all_below records (used_first s) && all_below records (pd_rule s) then InTurn (pds_below s records) else OutOfTurn
+abbrev pub counted_pds : State → Option ℕ
+counted_pds s = if all_below records (used_first s) && all_below records (pd_rule s) then Some (pds_below s records) else None
 
 -- so many records come before the first free one, or all are used
 pub record UsedBefore (s : State) (count : ℕ) : Type 0 where

@@ -9,20 +9,13 @@ ghost use Rattle.interface.specs.Boot.{cpus};
 ghost use Rattle.interface.specs.Damage.{fixed_record, interrupt_rule, unnamed_rule, used_first, pds_below, pd_rule, has_pd, is_ec, ec_rule, sc_rule, pt_rule};
 ghost use Rattle.record_rules.specs.RecordKeeping.{records_in, clear_from, rest_clear, has_words, record_keeps, UsedBefore, Numbered, counted_pds};
 
-use layout::{FoundObject, ObjectNumber};
+use layout::ObjectNumber;
 use words::sizes;
 
 // The greatest priority and quantum.
 const GREATEST_PRIORITY: u32 = 255;
 
 const GREATEST_QUANTUM: u32 = 1048575;
-
-// The number of PDs, if used records come first and PDs number their domains in turn.
-#[derive(Clone, Copy)]
-pub enum CountedPds {
-    InTurn(u32),
-    OutOfTurn,
-}
 
 // A word of the record that a loop over the records has counted to.
 pub fn word_of(objects: &[u32], number: u32, index: usize) -> u32
@@ -45,27 +38,21 @@ fn is_clear_from(objects: &[u32], number: u32, index: usize) -> bool
     requires { (length objects.now ≡ object_table_words) × (number < records) × (index ≤ record_words) }
     ensures { result ≡ clear_from (records_in objects.now) number index }
 {
-    let mut clear = true;
-    let mut at = index;
-    while at < sizes::RECORD_WORDS {
-        clear = clear & (word_of(objects, number, at) == 0);
-        at += 1;
-    }
-    clear
+    (index..sizes::RECORD_WORDS).fold(
+        true,
+        |clear, at| clear & (word_of(objects, number, at) == 0),
+    )
 }
 
-// Whether the words of the records from one on are 0.
+// Whether the words of the records from one on are 0. Each is looked at, without leaving early, so that the compiler makes vector code.
 fn rest_is_clear(objects: &[u32], number: u32) -> bool
     requires { (length objects.now ≡ object_table_words) × (number ≤ records) }
     ensures { result ≡ rest_clear objects.now number }
 {
-    let mut clear = true;
-    let mut at = sizes::RECORD_WORDS * (number as usize);
-    while at < sizes::OBJECT_TABLE_WORDS {
-        clear = clear & (objects[at] == 0);
-        at += 1;
-    }
-    clear
+    let start = sizes::RECORD_WORDS * (number as usize);
+    objects[start..]
+        .iter()
+        .fold(true, |clear, &word| clear & (word == 0))
 }
 
 // Whether a record's words are four given ones and then 0.
@@ -205,33 +192,32 @@ fn used_records(objects: &[u32]) -> u32
     requires { length objects.now ≡ object_table_words }
     ensures { UsedBefore (records_in objects.now) result }
 {
-    let FoundObject::Numbered(first) = objects::free_record(objects) else {
+    let Some(first) = objects::free_record(objects) else {
         return sizes::RECORDS;
     };
     first.number()
 }
 
-// How many PDs there are, if each keeps its rule and so do used records and free ones: from the first free one on all words are 0.
-pub fn pds_in_turn(objects: &[u32]) -> CountedPds
+// How many PDs there are, if each keeps its rule and so do used records and free ones: from the first free one on all words are 0. The loop carries the number of PDs so far, which
+// each is held against.
+pub fn pds_in_turn(objects: &[u32]) -> Option<u32>
     requires { length objects.now ≡ object_table_words }
     ensures { result ≡ counted_pds (records_in objects.now) }
 {
     let used = used_records(objects);
     if !rest_is_clear(objects, used) {
-        return CountedPds::OutOfTurn;
+        return None;
     }
     let mut before: u32 = 0;
-    let mut at: u32 = 0;
-    while at < used {
+    for at in 0..used {
         if kind_of(objects, at) == objects::PD {
             if !pd_keeps(objects, at, before) {
-                return CountedPds::OutOfTurn;
+                return None;
             }
             before += 1;
         }
-        at += 1;
     }
-    CountedPds::InTurn(before)
+    Some(before)
 }
 
 // Whether a semaphore's record past the idle SCs keeps the rules: it is none of the fixed ones, and has its count alone.
@@ -269,15 +255,13 @@ pub fn records_keep(objects: &[u32], pds: u32) -> bool
     requires { Numbered objects.now pds }
     ensures { result ≡ all_below records (record_keeps (records_in objects.now)) }
 {
-    let mut at: u32 = 0;
-    while at < sizes::RECORDS {
+    for at in 0..sizes::RECORDS {
         if kind_of(objects, at) == objects::FREE {
             return boot::ROOT_SC < at;
         }
         if !record_keeps(objects, at, pds) {
             return false;
         }
-        at += 1;
     }
     true
 }
@@ -287,13 +271,10 @@ pub fn has_pd(objects: &[u32], domain: u32) -> bool
     requires { length objects.now ≡ object_table_words }
     ensures { result ≡ has_pd (records_in objects.now) domain }
 {
-    let mut found = false;
-    let mut at: u32 = 0;
-    while at < sizes::RECORDS {
-        found = found
+    (0..sizes::RECORDS).fold(
+        false,
+        |found, at| found
             | ((kind_of(objects, at) == objects::PD)
-                & (word_of(objects, at, objects::DOMAIN) == domain));
-        at += 1;
-    }
-    found
+                & (word_of(objects, at, objects::DOMAIN) == domain)),
+    )
 }

@@ -10,8 +10,7 @@ use borrow.Author.Tests.{le-ltb}
 use borrow.Rule.Slice.PartMut.{put_mid, same_len_mid}
 use Rattle.io.specs.Counts.{IsPrefixLen}
 use Rattle.endian.specs.Parts.{written}
-use Rattle.reply.specs.declared.Reply.{Reply}
-use Rattle.reply.specs.Replies.{status_of, answer_of}
+use Rattle.reply.specs.Replies.{Reply, status_of, answer_of}
 use Rattle.interface.specs.Places.{Tables}
 use Rattle.interface.specs.Verdicts.{Call}
 use Rattle.interface.specs.Rules.{hypercall_reply, hypercall_tables}

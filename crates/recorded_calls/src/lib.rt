@@ -12,6 +12,7 @@ ghost use Rattle.recorded_calls.specs.OneRecord.{PlaysRecord};
 
 use interface::numbers;
 use journal_lines::Line;
+use journal_records::body_word;
 use reply::Reply;
 use service::CallWords;
 use words::sizes;
@@ -19,24 +20,18 @@ use words::sizes;
 // Plays a record: its hypercall on two tables that are known to be sound, and stay so. A CALL's blocks are the record's.
 pub fn play(kind: u8, body: &[u8], places: &mut [u32], objects: &mut [u32]) -> Reply
     requires { sound (tables places.old objects.old) ≡ true }
-    ensures objects_after { record { reply = result; tables = tables places.new objects.new } ≡
+    ensures answers { record { reply = result; tables = tables places.new objects.new } ≡
         answered (tables places.old objects.old) (recorded_call kind body.now) }
-    ensures objects_after_2 { sound (tables places.new objects.new) ≡ true }
+    ensures sound_after { sound (tables places.new objects.new) ≡ true }
 {
-    let caller = journal_records::body_word(body, 0);
-    let first = journal_records::body_word(body, 1);
-    let second = journal_records::body_word(body, 2);
-    let third = journal_records::body_word(body, 3);
-    let fourth = journal_records::body_word(body, 4);
-    let fifth = journal_records::body_word(body, 5);
-    let sixth = journal_records::body_word(body, 6);
+    let caller = body_word(body, 0);
     let words = CallWords {
-        first,
-        second,
-        third,
-        fourth,
-        fifth,
-        sixth,
+        first: body_word(body, 1),
+        second: body_word(body, 2),
+        third: body_word(body, 3),
+        fourth: body_word(body, 4),
+        fifth: body_word(body, 5),
+        sixth: body_word(body, 6),
     };
     if kind as u32 == numbers::CALL {
         let mut source = [0u32; sizes::BLOCK_WORDS];
@@ -53,6 +48,7 @@ pub fn play(kind: u8, body: &[u8], places: &mut [u32], objects: &mut [u32]) -> R
             &mut target,
         );
     }
+    // A call of its own, and not the one above over empty parts of the two arrays, which would then be cleared for every record.
     let source = [0u32; 0];
     let mut target = [0u32; 0];
     service::serve(
@@ -86,19 +82,17 @@ pub fn play_record(
     out: &mut [u8],
     at: usize,
 ) -> usize
-    requires objects_value { sound (tables places.old objects.old) ≡ true }
-    requires line_bytes_in_bounds { at + line_bytes ≤ length out.old }
+    requires sound_before { sound (tables places.old objects.old) ≡ true }
+    requires room { at + line_bytes ≤ length out.old }
     ensures { PlaysRecord (recorded_call kind body.now) (tables places.old objects.old) index out.old at
         (tables places.new objects.new) out.new result }
 {
     let reply = play(kind, body, places, objects);
-    let status = reply.status();
-    let answer = reply.answer();
     let line = Line::Done {
         index,
         kind,
-        status,
-        answer,
+        status: reply::status(reply),
+        answer: reply::answer(reply),
     };
     add_line(line, out, at)
 }

@@ -1,4 +1,5 @@
 -- Emptying the places that do not stay is repair, and when that leaves sound tables.
+use Rattle.std.specs.Prelude.{Option, None, Ok, Err}
 use Prim.Native.Nat.{ℕ, ◌+◌, ◌≤◌, ◌<◌}
 use mathlib.Core.Path.{◌≡◌, refl, sym, ap, ◌∙◌}
 use mathlib.Core.Logic.{◌⊎◌, inl, inr, ⊎_elim}
@@ -8,7 +9,7 @@ use native.Mathlib.Omega.{arith}
 use lib.ListN.{length}
 use borrow.Author.Tests.{eq-eqb, ne_eqb, not-true, not-false, ltb-false}
 use Rattle.words.specs.Sizes.{stride, domain_of, places, records}
-use Rattle.reply.specs.declared.Reply.TheVariants.{Success, Damaged}
+use Rattle.reply.specs.declared.Refusal.TheVariants.{Damaged}
 use Rattle.interface.specs.Basics.{all_below, count_below}
 use Rattle.interface.specs.Places.{Cap, Tables, live, nothing, place_table_words, object_table_words, sized, cap_at, cap_table, shown, tables, view}
 use Rattle.interface.specs.Boot.{hypervisor, boot}
@@ -21,8 +22,6 @@ use Rattle.interface.proofs.Sound.Soundness.{OfRecords}
 use Rattle.interface.proofs.Sound.PlaceFacts.{same_cap_lem}
 use Rattle.record_rules.specs.RecordKeeping.{records_in, counted_pds, Kept}
 use Rattle.record_rules.specs.RecordKeeping.{record_keeps as keepsOthers}
-use Rattle.record_rules.specs.declared.CountedPds.{CountedPds}
-use Rattle.record_rules.specs.declared.CountedPds.TheVariants.{OutOfTurn}
 use Rattle.record_rules.proofs.RecordParts.{caps_apart, record_parts}
 use Rattle.soundness.proofs.KeepingLaws.{pds_broken, records_broken}
 use Rattle.places.proofs.CapTableLaws.{cap_table_same}
@@ -176,7 +175,7 @@ module _ (t : Tables) where
   pub mends_sizes_broken : (answer : Bool) → answer ≡ sized t → not answer ≡ true → false ≡ sound (repaired t)
   mends_sizes_broken answer e f = never_sound (λ h. answered_no answer (sized t) e f (mends_sized h))
 
-  pub mends_pds_broken : (found : CountedPds) → found ≡ counted_pds (records_in t.objects) → found ≡ OutOfTurn → false ≡ sound (repaired t)
+  pub mends_pds_broken : (found : (Option ℕ)) → found ≡ counted_pds (records_in t.objects) → found ≡ None → false ≡ sound (repaired t)
   mends_pds_broken found is_found out =
       pds_broken (repaired t) found (is_found ∙ ap (λ (o : List ℕ). counted_pds (records_in o)) (sym same_objects)) out
 
@@ -208,7 +207,7 @@ module _ (t : Tables) where
 
 -- what the operation answers and leaves
 module _ (places objects : List ℕ) (answer : Bool) (is_answer : answer ≡ sound (repaired (tables places objects))) where
-  pub repair_refused : not answer ≡ true → record { reply = Damaged; tables = tables places objects } ≡ repairing (tables places objects)
+  pub repair_refused : not answer ≡ true → record { reply = Err Damaged; tables = tables places objects } ≡ repairing (tables places objects)
   unfolding repairing
   repair_refused f = rw (sym is_answer ∙ not-true answer f)
 
@@ -222,7 +221,7 @@ module _ (places objects : List ℕ) (answer : Bool) (is_answer : answer ≡ sou
     pub fits_objects : length objects ≡ object_table_words
     fits_objects = objects_long (tables places objects) fits
 
-    pub repair_done : (after : List ℕ) (count : ℕ) → Mended places objects after count → record { reply = Success count; tables = tables after objects } ≡ repairing (tables places objects)
+    pub repair_done : (after : List ℕ) (count : ℕ) → Mended places objects after count → record { reply = Ok count; tables = tables after objects } ≡ repairing (tables places objects)
     unfolding repairing repaired
     repair_done after count m =
         rw (sym is_answer ∙ not-false answer t, fits, m.leaves, m.counts)

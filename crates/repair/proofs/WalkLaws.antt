@@ -1,4 +1,5 @@
 -- A walk along a chain whose places that keep the rules are marked: each step leaves one place less to look at.
+use Rattle.std.specs.Prelude.{Option, Some, None, if◌then◌else◌}
 use Prim.Native.Nat.{ℕ, suc, ◌+◌, ◌-◌, ◌≤◌, ◌<◌}
 use mathlib.Core.Path.{◌≡◌, sym, ap, ◌∙◌}
 use mathlib.Core.Bool.{Bool, true, false, not, ◌&&◌}
@@ -8,11 +9,8 @@ use lib.Dec.{eqb, leb}
 use borrow.Author.Tests.{eqb-true, eqb-false, ne_eqb, not-true, not-false}
 use Rattle.words.specs.Sizes.{places, greatest_depth}
 use Rattle.layout.specs.declared.Place.{Place}
-use Rattle.layout.specs.declared.FoundPlace.{FoundPlace}
-use Rattle.layout.specs.declared.FoundPlace.TheVariants.{At, Nowhere}
 use Rattle.layout.specs.Numbers.{linked}
 use Rattle.layout.proofs.NumberLaws.{linked_inside, linked_out}
-use Rattle.std.specs.Prelude.{if◌then◌else◌}
 use Rattle.interface.specs.Places.{Cap, State, live, cap_at, view}
 use Rattle.interface.specs.Damage.{live_place, shallow}
 use Rattle.interface.proofs.Basics.BoolLaws.{cases, and_left}
@@ -51,7 +49,7 @@ module _ (s : State) (p : ℕ) (keeps : link_keeps s p ≡ true) (alive : live (
   pub parent_of : ((s.caps p).parent ≡ 0 → ⊥) → ChildOf s p ((s.caps p).parent - 1)
   parent_of some = parent_above s p (live_facts s p (and_left (live_place s p) (shallow s p) keeps) alive).lineage some
 
-  pub no_parent_of : linked (s.caps p).parent ≡ Nowhere → (s.caps p).parent ≡ 0
+  pub no_parent_of : linked (s.caps p).parent ≡ None → (s.caps p).parent ≡ 0
   no_parent_of none =
       cases (eqb (s.caps p).parent 0) (λ (t : eqb (s.caps p).parent 0 ≡ true). eqb-true (s.caps p).parent 0 t)
       (λ (f : eqb (s.caps p).parent 0 ≡ false).
@@ -80,29 +78,29 @@ module _ (table links : List ℕ) (first : ℕ) where
               step_broken (view table objects) left at more (sym (told.told at small) ∙ sym e ∙ not-true set f));
         }
 
-    module _ (set : Bool) (is_set : set ≡ bit_at links at) (holds : not set ≡ false) {cap : Cap} (is_cap : cap ≡ cap_at table at) {found : FoundPlace} (is_found : found ≡ linked cap.parent) where
+    module _ (set : Bool) (is_set : set ≡ bit_at links at) (holds : not set ≡ false) {found : (Option Place)} (is_found : found ≡ linked (cap_at table at).parent) where
       keeps : (objects : List ℕ) → Marked (link_keeps (view table objects)) links → link_keeps (view table objects) at ≡ true
       keeps objects told = sym (told.told at small) ∙ sym is_set ∙ not-false set holds
 
-      pub walk_ends : found ≡ Nowhere → ToldWhole table links first true
+      pub walk_ends : found ≡ None → ToldWhole table links first true
       walk_ends none =
           record {
             whole_told =
                 λ objects told.
                 let s = view table objects in
                 let here = so_far objects told in
-                let nowhere : linked (s.caps at).parent ≡ Nowhere = rw is_cap at (sym is_found ∙ none) in
+                let nowhere : linked (s.caps at).parent ≡ None = sym is_found ∙ none in
                 sym (here.1 ∙ step_ends s left at more (keeps objects told) (no_parent_of s at (keeps objects told) here.0 nowhere));
           }
 
-      pub walk_above : {above : Place} → found ≡ At above → above.0 < places
-      walk_above leads = (linked_inside cap.parent _ (sym is_found ∙ leads)).1
+      pub walk_above : {above : Place} → found ≡ Some above → above.0 < places
+      walk_above leads = (linked_inside (cap_at table at).parent _ (sym is_found ∙ leads)).1
 
-      pub walk_on : {above : Place} → found ≡ At above → Walked above.0 (left - 1)
+      pub walk_on : {above : Place} → found ≡ Some above → Walked above.0 (left - 1)
       walk_on {above} leads objects told =
           let s = view table objects in
           let here = so_far objects told in
-          let up : (s.caps at).parent ≡ above.0 + 1 = rw is_cap at (linked_inside cap.parent above (sym is_found ∙ leads)).0 in
+          let up : (s.caps at).parent ≡ above.0 + 1 = (linked_inside (cap_at table at).parent above (sym is_found ∙ leads)).0 in
           let c = parent_of s at (keeps objects told) here.0 (omega arith) in
           let same : (s.caps at).parent - 1 ≡ above.0 = omega arith in
           (rw same at c.alive, here.1 ∙ step_on s left at more above.0 (keeps objects told) up)

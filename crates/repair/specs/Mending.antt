@@ -1,9 +1,9 @@
 -- What the functions that repair tables cite beside the definition of repair.
-use Rattle.std.specs.Prelude.{ℕ, ◌≡◌, Bool, false, not, ◌&&◌, List, length, if◌then◌else◌}
+use Rattle.std.specs.Prelude.{ℕ, ◌≡◌, Bool, false, not, ◌&&◌, List, if◌then◌else◌}
 use Rattle.interface.specs.Places.{State, live, nothing, place_table, cap_at, cap_table, view}
 use Rattle.interface.specs.Boot.{boot}
 use Rattle.interface.specs.Damage.{same_cap, live_place, shallow}
-use Rattle.marks.specs.PlaceBits.{mark_words, bit_at}
+use Rattle.marks.specs.PlaceBits.{bit_at}
 use Rattle.descent.specs.Walks.{Marked}
 use Rattle.tree.specs.Changing.{changed_where}
 use Rattle.repair_rules.specs.Repair.{whole, stays, repaired_state, lost}
@@ -14,7 +14,6 @@ link_keeps s p = live_place s p && shallow s p
 
 -- marks of no place
 pub record Unmarked (marks : List ℕ) : Type 0 where
-  pub long : length marks ≡ mark_words
   pub none : (number : ℕ) → bit_at marks number ≡ false
 
 -- what marks tell that are those of the places which keep the rules 11 and 12, whatever the records: whether a chain is whole, whether a place goes, and all that go, with the number of

@@ -1,8 +1,8 @@
 -- Repair of found tables: sections 17.4 and 17.6 of the manual. Null places and, outside domain 0, places that cannot be accounted for are emptied, and nothing else changes.
-use Rattle.std.specs.Prelude.{ℕ, zero, suc, ◌+◌, ◌-◌, Bool, true, false, not, ◌&&◌, ◌||◌, eqb, if◌then◌else◌}
+use Rattle.std.specs.Prelude.{ℕ, zero, suc, ◌+◌, ◌-◌, Bool, true, false, not, ◌&&◌, ◌||◌, eqb, if◌then◌else◌, Ok, Err}
 use Rattle.words.specs.Sizes.{domain_of, places, greatest_depth}
-use Rattle.reply.specs.declared.Reply.{Reply}
-use Rattle.reply.specs.declared.Reply.TheVariants.{Success, Damaged}
+use Rattle.reply.specs.Replies.{Reply}
+use Rattle.reply.specs.declared.Refusal.TheVariants.{Damaged}
 use Rattle.interface.specs.Basics.{count_below}
 use Rattle.interface.specs.Places.{Cap, State, Tables, live, nothing, sized, shown, place_table}
 use Rattle.interface.specs.Boot.{hypervisor}
@@ -45,5 +45,5 @@ pub record Repairing : Type 0 where
 
 unfoldable pub repairing : Tables → Repairing
 repairing tables =
-    if sound (repaired tables) then record { reply = Success (lost (shown tables)); tables = repaired tables } else
-    record { reply = Damaged; tables = tables }
+    if sound (repaired tables) then record { reply = Ok (lost (shown tables)); tables = repaired tables } else
+    record { reply = Err Damaged; tables = tables }

@@ -1,6 +1,6 @@
 -- What follows from the definition of repair: sections 17.4 to 17.6 of the manual, sentence by sentence.
-use Rattle.std.specs.Prelude.{ℕ, zero, suc, ◌+◌, ◌-◌, ◌≤◌, ◌<◌, ◌≡◌, ◌↔◌, ◌⊎◌, true, false, length}
-use Rattle.reply.specs.declared.Reply.TheVariants.{Success, Damaged}
+use Rattle.std.specs.Prelude.{ℕ, zero, suc, ◌+◌, ◌-◌, ◌≤◌, ◌<◌, ◌≡◌, ◌↔◌, ◌⊎◌, true, false, length, Ok, Err}
+use Rattle.reply.specs.declared.Refusal.TheVariants.{Damaged}
 use Rattle.interface.specs.Basics.{count_below}
 use Rattle.interface.specs.Places.{State, Tables, live, nothing, cap_at, shown}
 use Rattle.interface.specs.Boot.{boot}
@@ -74,6 +74,6 @@ pub record RepairsOnce : Type 0 where
 -- The operation: it is refused exactly where the repaired tables are not sound, and then leaves the tables; otherwise it leaves the repaired ones, and counts the places that were live
 -- and are not any more
 pub record RepairAnswers : Type 0 where
-  pub refused : (t : Tables) → sound (repaired t) ≡ false → repairing t ≡ record { reply = Damaged; tables = t }
-  pub mends : (t : Tables) → sound (repaired t) ≡ true → repairing t ≡ record { reply = Success (lost (shown t)); tables = repaired t }
+  pub refused : (t : Tables) → sound (repaired t) ≡ false → repairing t ≡ record { reply = Err Damaged; tables = t }
+  pub mends : (t : Tables) → sound (repaired t) ≡ true → repairing t ≡ record { reply = Ok (lost (shown t)); tables = repaired t }
   pub counts : (t : Tables) → Long t → lost (shown t) + count_below 3072 (λ p. live (cap_at (repaired t).places p)) ≡ count_below 3072 (λ p. live (cap_at t.places p))

@@ -1,8 +1,9 @@
 -- Positions in the buffers, records played in a front part of a buffer, turns one after the other, and what boot leaves.
-use Prim.Native.Nat.{ℕ, suc, ◌+◌, ◌-◌, ◌^◌, ◌≤◌, ◌<◌}
+use Prim.Native.Nat.{ℕ, ◌+◌, ◌-◌, ◌≤◌}
 use mathlib.Core.Path.{◌≡◌, refl, sym, ◌∙◌, subst}
 use mathlib.Core.Bool.{Bool, true, false}
 use mathlib.Core.List.{List, []}
+use native.Mathlib.Numerals.{add-one}
 use native.Mathlib.Omega.{arith}
 use lib.Dec.{eqb}
 use lib.ListN.{length, take, length-take}
@@ -55,10 +56,9 @@ pub turns_none : (start : Standing) → Turns 0 start start
 unfolding Turns
 turns_none start = refl
 
-pub turns_more : (start : Standing) {before after : Standing} (count left : ℕ) → 0 < left → count + left ≡ 2 ^ 64 - 1 → Turns count start before → Follows before after →
-    (more : ℕ) × (more + (left - 1) ≡ 2 ^ 64 - 1) × Turns more start after
+pub turns_more : (start : Standing) {before after : Standing} (count : ℕ) → Turns count start before → Follows before after → Turns (count + 1) start after
 unfolding Turns
-turns_more start {before} count left some sum turns follows = (suc count, omega arith, (before, turns, follows))
+turns_more start {before} count turns follows = rw add-one (before, turns, follows)
 
 -- what boot leaves of tables of the right lengths is sound
 pub booted_sound : (places objects : List ℕ) {after : Tables} → length places ≡ place_table_words → length objects ≡ object_table_words →

@@ -7,25 +7,14 @@ ghost use Rattle.interface.specs.Damage.{sound};
 ghost use Rattle.journal_lines.specs.Lines.{line_bytes};
 ghost use Rattle.turns.specs.Buffers.{Waits, Inside, line_start, last_after, Turn, KeepsUnplayed, begun, TurnsToTheEnd};
 
-use command_line::{PATH_BYTES, argument, argument_count, fail};
+use command_line::{Job, fail, print};
 use playback::Found;
-use std::fs::File;
-use std::io::{Eprint, Input, Print, Read};
-use std::rt::{Env, Files};
+use std::io::{Eprint, Print, Read};
 use turns::Progress;
 use words::sizes;
 
 // The size of each buffer: the bytes of a journal, and the lines that wait.
 const BUFFER_BYTES: usize = 65536;
-
-// Writes the lines that wait to standard output.
-fn flush(rt: &(impl Print + Eprint), out: &[u8], waiting: usize)
-    requires { waiting ≤ length out.now }
-{
-    if let Err(error) = rt.write_all(&out[..waiting]) {
-        fail(rt, "standard output", error);
-    }
-}
 
 // Where the last lines go: after the lines that wait or, if two of the longest lines do not fit there, at the front, once these are written.
 fn last_start(rt: &(impl Print + Eprint), out: &[u8], waiting: usize) -> usize
@@ -33,7 +22,7 @@ fn last_start(rt: &(impl Print + Eprint), out: &[u8], waiting: usize) -> usize
     ensures { result + 2 * line_bytes ≤ length out.now }
 {
     if out.len() - waiting < 2 * journal_lines::LINE_BYTES {
-        flush(rt, out, waiting);
+        print(rt, &out[..waiting]);
         return 0;
     }
     waiting
@@ -49,8 +38,8 @@ fn read_more(
     kept: usize,
 ) -> usize
     requires { kept ≤ length buffer.old }
-    ensures lower_bound { (kept ≤ result) × (result ≤ length buffer.new) }
-    ensures buffer_unchanged { take kept buffer.new ≡ take kept buffer.old }
+    ensures bounds { (kept ≤ result) × (result ≤ length buffer.new) }
+    ensures kept_bytes { take kept buffer.new ≡ take kept buffer.old }
 {
     match source.read(&mut buffer[kept..]) {
         Ok(more) => kept + more,
@@ -72,18 +61,18 @@ fn replay_more(
     input: &mut [u8],
     out: &mut [u8],
 ) -> Progress
-    requires objects_value { sound (tables places.old objects.old) ≡ true }
+    requires sound_before { sound (tables places.old objects.old) ≡ true }
     requires inside { Inside progress input.old out.old }
-    ensures inside_2 { Inside result input.new out.new }
+    ensures inside_after { Inside result input.new out.new }
     ensures turn { Turn (take result.filled input.new) (last_after progress result) (tables places.old objects.old) progress.done
         out.old (line_start progress) (tables places.new objects.new) out.new result }
     ensures keeps_unplayed { KeepsUnplayed progress input.old result input.new }
-    ensures objects_after { sound (tables places.new objects.new) ≡ true }
+    ensures sound_after { sound (tables places.new objects.new) ≡ true }
 {
     let kept = turns::move_to_front(input, progress.at, progress.filled);
     let next = progress.next;
     if turns::is_whole(next) {
-        flush(rt, out, progress.waiting);
+        print(rt, &out[..progress.waiting]);
         return turns::play(
             &input[..kept],
             progress.is_last,
@@ -106,7 +95,7 @@ fn replay_more(
     )
 }
 
-// Replays a journal to its end. A proved loop has to end, and nothing says that a journal does: so the loop counts its turns down from a number that no run uses up.
+// Replays a journal to its end. A proved loop has to end, and nothing says that a journal does: so the loop counts its turns up to a number that no run reaches.
 fn replay_all(
     rt: &(impl Print + Eprint),
     source: &mut impl Read,
@@ -117,7 +106,7 @@ fn replay_all(
     input: &mut [u8],
     out: &mut [u8],
 ) -> Progress
-    requires objects_value { sound (tables places.old objects.old) ≡ true }
+    requires sound_before { sound (tables places.old objects.old) ≡ true }
     requires waits { Waits out.old waiting }
     ensures inside { Inside result input.new out.new }
     ensures turns_to_the_end { TurnsToTheEnd
@@ -133,10 +122,11 @@ fn replay_all(
         is_last: false,
         is_over: false,
     };
-    let mut turns = u64::MAX;
-    while turns > 0 && !progress.is_over {
+    for turn in 0..u64::MAX {
+        if progress.is_over {
+            return progress;
+        }
         progress = replay_more(rt, source, name, progress, places, objects, input, out);
-        turns -= 1;
     }
     progress
 }
@@ -155,7 +145,7 @@ fn replay_journal(
 {
     let mut places = [0u32; sizes::PLACE_TABLE_WORDS];
     let mut objects = [0u32; sizes::OBJECT_TABLE_WORDS];
-    kernel::boot(&mut places, &mut objects);
+    let _ = kernel::boot(&mut places, &mut objects);
     let progress = replay_all(
         rt,
         source,
@@ -171,90 +161,37 @@ fn replay_journal(
     playback::add_last_lines(next, progress.done, out, start)
 }
 
-// Replays the journal on standard input. Answers how many bytes wait then.
-fn replay_standard_input(
-    rt: &(impl Input + Print + Eprint),
-    input: &mut [u8],
-    out: &mut [u8],
+// The buffers of the replays: the bytes of a journal, and the lines that wait.
+#[derive(Drop)]
+struct Replay {
+    input: [u8; BUFFER_BYTES],
+    out: [u8; BUFFER_BYTES],
     waiting: usize,
-) -> usize
-    requires { Waits out.old waiting }
-    ensures { Waits out.new result }
-{
-    replay_journal(rt, &mut rt.reader(), "standard input", input, out, waiting)
+    ghost waits: { Waits out waiting },
 }
 
-// Replays the journal in a file; one that cannot be opened is named on standard error. Answers how many bytes wait then.
-fn replay_file(
-    rt: &(impl Files + Print + Eprint),
-    name: &str,
-    input: &mut [u8],
-    out: &mut [u8],
-    waiting: usize,
-) -> usize
-    requires { Waits out.old waiting }
-    ensures { Waits out.new result }
-{
-    match File::open(rt, name) {
-        Ok(mut file) => replay_journal(rt, &mut file, name, input, out, waiting),
-        Err(error) => {
-            fail(rt, name, error);
-            waiting
-        }
+impl Job for Replay {
+    // Replays the journal that a source gives.
+    fn run(&mut self, rt: &(impl Print + Eprint), source: &mut impl Read, name: &str) {
+        self.waiting = replay_journal(
+            rt,
+            source,
+            name,
+            &mut self.input,
+            &mut self.out,
+            self.waiting,
+        );
     }
-}
-
-// Whether a name is the one that stands for standard input.
-fn is_dash(name: &str) -> bool {
-    name == "-"
-}
-
-// Replays the journal that an argument names. Answers how many bytes wait then.
-fn replay_argument(
-    rt: &(impl Env + Files + Input + Print + Eprint),
-    index: usize,
-    input: &mut [u8],
-    out: &mut [u8],
-    waiting: usize,
-) -> usize
-    requires { Waits out.old waiting }
-    ensures { Waits out.new result }
-{
-    let mut path = [0u8; PATH_BYTES];
-    match argument(rt, index, &mut path) {
-        Ok(name) if is_dash(name) => replay_standard_input(rt, input, out, waiting),
-        Ok(name) => replay_file(rt, name, input, out, waiting),
-        Err(error) => {
-            fail(rt, "argument", error);
-            waiting
-        }
-    }
-}
-
-// Replays what the arguments name, the program's own name apart, or standard input where there is none. Answers how many bytes wait then.
-fn replay_arguments(
-    rt: &(impl Env + Files + Input + Print + Eprint),
-    input: &mut [u8],
-    out: &mut [u8],
-) -> usize
-    requires { 2 * line_bytes ≤ length out.old }
-    ensures { Waits out.new result }
-{
-    let count = argument_count(rt);
-    if count < 2 {
-        return replay_standard_input(rt, input, out, 0);
-    }
-    let mut waiting: usize = 0;
-    for index in 1..count {
-        waiting = replay_argument(rt, index, input, out, waiting);
-    }
-    waiting
 }
 
 // Replays, and writes the lines that wait at the end.
 fn main(rt: HostRuntime) {
-    let mut input = [0u8; BUFFER_BYTES];
-    let mut out = [0u8; BUFFER_BYTES];
-    let waiting = replay_arguments(&rt, &mut input, &mut out);
-    flush(&rt, &out, waiting);
+    let mut replay = Replay {
+        input: [0u8; BUFFER_BYTES],
+        out: [0u8; BUFFER_BYTES],
+        waiting: 0,
+    };
+    command_line::run(&rt, &mut replay);
+    let out: &[u8] = &replay.out;
+    print(&rt, &out[..replay.waiting]);
 }

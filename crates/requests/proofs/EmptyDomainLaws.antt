@@ -2,7 +2,7 @@
 use Prim.Native.Nat.{ℕ}
 use mathlib.Core.Path.{◌≡◌}
 use mathlib.Core.List.{List}
-use Rattle.reply.specs.declared.Reply.{Reply}
+use Rattle.reply.specs.Replies.{Reply}
 use Rattle.descriptor.specs.Descriptors.{null}
 use Rattle.interface.specs.Boot.{root_ec, exc}
 use Rattle.interface.specs.Verdicts.{CREATE_PD}

@@ -1,4 +1,5 @@
 -- The ranges that are asked for lie in their spaces, whatever the sizes of those.
+use Rattle.std.specs.Prelude.{Option, Some, None}
 use Prim.Native.Nat.{ℕ, ◌%◌, ◌^◌, ◌≤◌, ◌<◌}
 use mathlib.Core.Path.{◌≡◌, sym, ◌∙◌}
 use mathlib.Core.Bool.{true}
@@ -8,8 +9,6 @@ use Rattle.words.specs.Sizes.{greatest_order, selectors, spaces}
 use Rattle.words.specs.Ranges.{aligned}
 use Rattle.words.proofs.RangeLaws.{aligned_divides, range_ends}
 use Rattle.layout.specs.declared.Selector.{Selector}
-use Rattle.layout.specs.declared.FoundSelector.{FoundSelector}
-use Rattle.layout.specs.declared.FoundSelector.TheVariants.{Named, Outside}
 use Rattle.layout.specs.Numbers.{selected}
 use Rattle.descriptor.specs.Descriptors.{Proper, describe}
 use Rattle.layout.proofs.NumberLaws.{selected_named, selected_none}
@@ -32,11 +31,11 @@ masked_proper space base order mask is_space is_order is_aligned is_selector is_
     }
 
 -- the word of a selector names it in its space
-module _ (space base : ℕ) {found : FoundSelector} (is_found : found ≡ selected space base) (is_selector : base < selectors space) where
-  pub never_outside : found ≡ Outside → ⊥
+module _ (space base : ℕ) {found : (Option Selector)} (is_found : found ≡ selected space base) (is_selector : base < selectors space) where
+  pub never_outside : found ≡ None → ⊥
   never_outside none = selected_none space base is_selector (sym is_found ∙ none)
 
-  module _ {selector : Selector} (is_named : found ≡ Named selector) where
+  module _ {selector : Selector} (is_named : found ≡ Some selector) where
     named_same : selector.0 ≡ base
     named_same = selected_named space base selector is_selector (sym is_found ∙ is_named)
 

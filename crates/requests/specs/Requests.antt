@@ -1,7 +1,7 @@
 -- Requests: the hypercalls by name that send no message, as those who ask for them write them down.
 use Rattle.std.specs.Prelude.{ℕ, ◌≡◌, List, []}
 use Rattle.descriptor.specs.declared.Range.{Range}
-use Rattle.reply.specs.declared.Reply.{Reply}
+use Rattle.reply.specs.Replies.{Reply}
 use Rattle.interface.specs.Places.{tables}
 use Rattle.interface.specs.Verdicts.{Call}
 use Rattle.interface.specs.Outcomes.{answered, call_of}

@@ -12,7 +12,7 @@ ghost use Rattle.requests.specs.Requests.{Asked, cpu, masked_range, full_range, 
 use boot::ROOT_EC;
 use descriptor::Descriptor;
 use interface::numbers;
-use layout::{FoundSelector, Selector};
+use layout::Selector;
 use reply::Reply;
 
 // The selector where the root has its own PD.
@@ -29,7 +29,7 @@ pub fn masked_range(space: u32, base: u32, order: u32, mask: u32) -> u32
     requires { (space < spaces) × (order ≤ greatest_order space) × (aligned order base ≡ true) × (base < selectors space) × (mask < 2 ^ 5) }
     ensures { result ≡ describe (masked_range space base order mask) }
 {
-    let FoundSelector::Named(selector) = Selector::of(space, base) else {
+    let Some(selector) = Selector::of(space, base) else {
         return Descriptor::NULL.word();
     };
     Descriptor::of(space, selector, order, mask).word()
@@ -51,7 +51,7 @@ pub fn single(space: u32, selector: u32) -> u32
     range(space, selector, 0)
 }
 
-// Makes a call that sends no message.
+// Makes a call that sends no message. The two tables stay two, as the kernel's functions have them.
 fn ask(
     number: u32,
     caller: u32,

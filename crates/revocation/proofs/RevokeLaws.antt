@@ -1,4 +1,5 @@
 -- What REVOKE answers and leaves, by its self word, the reading of its descriptor and the mask.
+use Rattle.std.specs.Prelude.{Ok, Err}
 use Prim.Native.Nat.{ℕ, ◌+◌, ◌^◌, ◌≤◌, ◌<◌}
 use mathlib.Core.Path.{◌≡◌, sym, ◌∙◌}
 use mathlib.Core.Bool.{Bool, true, false}
@@ -14,7 +15,7 @@ use Rattle.words.specs.Permissions.{delegated}
 use Rattle.words.proofs.PlaceLaws.{start_rises}
 use Rattle.descriptor.specs.declared.Range.{Range}
 use Rattle.descriptor.specs.declared.Reading.TheVariants.{Null, Malformed, Good}
-use Rattle.reply.specs.declared.Reply.TheVariants.{Success, BadPar}
+use Rattle.reply.specs.declared.Refusal.TheVariants.{BadPar}
 use Rattle.descriptor.specs.Descriptors.{Proper, reading}
 use Rattle.descriptor.proofs.DescriptorLaws.{proper_space}
 use Rattle.interface.specs.Places.{State, PD, greatest, domain_word, cap_at, object_at, cap_table, tables, view}
@@ -83,31 +84,31 @@ module _ (s : State) (c : Call) (small : c.second ≤ 1) where
   good_verdict range e h = rw (le-leb c.second 1 small, e, h)
 
 module _ {places objects : List ℕ} {caller self : ℕ} (called : Called places objects caller) where
-  pub self_refused : 1 < self → (c : Call) → c.second ≡ self → Runs revoke c (tables places objects) (tables places objects) BadPar
+  pub self_refused : 1 < self → (c : Call) → c.second ≡ self → Runs revoke c (tables places objects) (tables places objects) (Err BadPar)
   unfolding revoke
   self_refused large c is_second = refused_runs called (rw (is_second, lt-leb self 1 large))
 
   module _ {descriptor : ℕ} (small : self ≤ 1) where
     pub malformed_refused : reading descriptor ≡ Malformed → (c : Call) → c.first ≡ descriptor → c.second ≡ self →
-        Runs revoke c (tables places objects) (tables places objects) BadPar
+        Runs revoke c (tables places objects) (tables places objects) (Err BadPar)
     malformed_refused e c is_first is_second =
         refused_runs called (malformed_verdict (view places objects) c (rw is_second small) (rw is_first e))
 
     pub null_revokes : reading descriptor ≡ Null → (c : Call) → c.first ≡ descriptor → c.second ≡ self →
-        Runs revoke c (tables places objects) (tables places objects) (Success 0)
+        Runs revoke c (tables places objects) (tables places objects) (Ok 0)
     unfolding run
     null_revokes e c is_first is_second =
         granted_runs called (null_verdict (view places objects) c (rw is_second small) (rw is_first e)) (sym (places_kept called)) (sym (objects_kept called))
 
     pub mask_refused : {range : Range} {outside : Bool} → reading descriptor ≡ Good range → outside ≡ mask_is_outside (Good range) → outside ≡ true →
-        (c : Call) → c.first ≡ descriptor → c.second ≡ self → Runs revoke c (tables places objects) (tables places objects) BadPar
+        (c : Call) → c.first ≡ descriptor → c.second ≡ self → Runs revoke c (tables places objects) (tables places objects) (Err BadPar)
     mask_refused {range} e is_outside h c is_first is_second =
         refused_runs called (outside_verdict (view places objects) c (rw is_second small) range (rw is_first e) (sym is_outside ∙ h))
 
     pub range_revokes : {domain mask first size : ℕ} {range : Range} {outside : Bool} {after : List ℕ} → reading descriptor ≡ Good range →
         outside ≡ mask_is_outside (Good range) → outside ≡ false → domain ≡ object_at objects caller domain_word → Aimed domain range mask first size →
         after ≡ cap_table (cut_caps mask first size (eqb self 1) (cap_at places)) →
-        (c : Call) → c.caller ≡ caller → c.first ≡ descriptor → c.second ≡ self → Runs revoke c (tables places objects) (tables after objects) (Success 0)
+        (c : Call) → c.caller ≡ caller → c.first ≡ descriptor → c.second ≡ self → Runs revoke c (tables places objects) (tables after objects) (Ok 0)
     unfolding run act
     range_revokes {range} e is_outside h is_domain aimed is_after c is_caller is_first is_second =
         granted_runs called (good_verdict (view places objects) c (rw is_second small) range (rw is_first e) (sym is_outside ∙ h))

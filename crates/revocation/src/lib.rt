@@ -11,7 +11,8 @@ ghost use Rattle.capabilities.specs.Callers.{Called};
 
 use descriptor::{Descriptor, Range, Reading};
 use layout::{ObjectNumber, Place};
-use reply::Reply;
+use marks::PlaceRange;
+use reply::{Refusal, Reply};
 use words::{permissions, ranges};
 
 // Whether a range's mask lies outside the greatest permissions of its space, for objects a PD's, so that nothing can be revoked by it.
@@ -36,21 +37,26 @@ pub fn revoke(
         Runs revokeRule c (tables places.old objects.now) (tables places.new objects.now) result }
 {
     if 1 < self_word {
-        return Reply::BadPar;
+        return Err(Refusal::BadPar);
     }
     match Descriptor::from_word(descriptor).read() {
-        Reading::Null => Reply::Success(0),
-        Reading::Malformed => Reply::BadPar,
+        Reading::Null => Ok(0),
+        Reading::Malformed => Err(Refusal::BadPar),
         Reading::Good(range) => {
             if mask_is_outside(range) {
-                return Reply::BadPar;
+                return Err(Refusal::BadPar);
             }
             let domain = capabilities::domain(places, objects, caller);
             let space = range.space();
             let first = Place::of(domain, space, range.at(0));
             let size = ranges::size(range.order());
-            tree::cut(places, range.mask(), first, size, self_word == 1);
-            Reply::Success(0)
+            tree::cut(
+                places,
+                range.mask(),
+                PlaceRange { first, size },
+                self_word == 1,
+            );
+            Ok(0)
         }
     }
 }

@@ -1,28 +1,39 @@
 -- The rules by their numbers: which rule a number has; and that LOOKUP leaves the tables.
-use Prim.Native.Nat.{ℕ, suc, ◌≤◌}
-use mathlib.Core.Path.{◌≡◌, sym, ◌∙◌}
-use mathlib.Core.Bool.{true, false, true≢false, ◌&&◌, ◌||◌}
+use Prim.Native.Nat.{ℕ}
+use mathlib.Core.Path.{◌≡◌, refl, sym}
+use mathlib.Core.Bool.{true, false}
 use mathlib.Core.List.{List, []}
-use lib.Dec.{eqb, leb}
-use native.Mathlib.Omega.{arith}
-use borrow.Author.Tests.{eqb-true, eqb-false, ne_eqb, leb-true, le-leb}
-use Rattle.reply.specs.declared.Reply.{Reply}
+use borrow.Author.Tests.{ne_eqb}
+use Rattle.reply.specs.Replies.{Reply}
 use Rattle.interface.specs.Places.{State, tables, view}
 use Rattle.interface.specs.RangeDescriptors.{reading, malformed}
 use Rattle.interface.specs.Effects.{run}
-use Rattle.interface.specs.Verdicts.{Call, reply_of, effects_of}
-use Rattle.interface.specs.Verdicts.{CALL, CREATE_PD, CREATE_EC, CREATE_SC, CREATE_PT, CREATE_SM, REVOKE, LOOKUP, SM_CTRL}
+use Rattle.interface.specs.Verdicts.{Call, Verdict, reply_of, effects_of, CALL, CREATE_PD, CREATE_EC, CREATE_SC, CREATE_PT, CREATE_SM, REVOKE, LOOKUP, SM_CTRL}
 use Rattle.interface.specs.Creations.{create_pd, create_ec, create_sc, create_pt, create_sm}
 use Rattle.interface.specs.Revoke.{revoke}
 use Rattle.interface.specs.Lookup.{lookup}
 use Rattle.interface.specs.Semaphores.{sm_ctrl}
 use Rattle.interface.specs.PortalCalls.{portal_call}
 use Rattle.interface.specs.Rules.{rule, not_built, hypercall, Runs}
-use Rattle.interface.proofs.Basics.BoolLaws.{cases, and_left, and_right, both}
+use Rattle.interface.proofs.Basics.BoolLaws.{cases}
 use Rattle.interface.proofs.Tables.TableLaws.{sound_sized}
 use Rattle.interface.proofs.Consequences.ConsequenceLaws.{tables_back}
 use Rattle.capabilities.specs.Callers.{Called}
-use Rattle.service.specs.Admission.{is_built}
+use Rattle.service.specs.declared.Hypercall.{Hypercall}
+use Rattle.service.specs.declared.Hypercall.TheVariants.{Call as CallNamed, CreatePd, CreateEc, CreateSc, CreatePt, CreateSm, Revoke, Lookup, SmCtrl}
+use Rattle.service.specs.Admission.{number_of}
+
+-- the rule of a hypercall
+abbrev pub rule_of : Hypercall → State → Call → Verdict
+rule_of CallNamed = portal_call
+rule_of CreatePd = create_pd
+rule_of CreateEc = create_ec
+rule_of CreateSc = create_sc
+rule_of CreatePt = create_pt
+rule_of CreateSm = create_sm
+rule_of Revoke = revoke
+rule_of Lookup = lookup
+rule_of SmCtrl = sm_ctrl
 
 -- the rules of the numbers
 module _ (number : ℕ) where
@@ -79,53 +90,17 @@ module _ (number : ℕ) where
         ne_eqb number SM_CTRL i,
       )
 
--- the numbers that are built: CALL, those from CREATE_PD to LOOKUP, and SM_CTRL
-module _ (number : ℕ) where
-  built_call : number ≡ CALL → is_built number ≡ true
-  built_call e = rw (is_call number e)
-
-  built_sm_ctrl : number ≡ SM_CTRL → is_built number ≡ true
-  built_sm_ctrl e = rw (is_sm_ctrl number e)
-
-  -- a number from another on is that one or is from the next on
-  from : {C : Type 0} (other : ℕ) → other ≤ number → (number ≡ other → C) → (suc other ≤ number → C) → C
-  from other least same past =
-      cases (eqb number other) (λ (t : eqb number other ≡ true). same (eqb-true number other t))
-      (λ (f : eqb number other ≡ false). let apart = eqb-false number other f in past (omega arith))
-
-  built_range : CREATE_PD ≤ number → number ≤ LOOKUP → is_built number ≡ true
-  built_range low high =
-      from CREATE_PD low (λ e. rw (is_create_pd number e))
-      (λ past_pd. from CREATE_EC past_pd (λ e. rw (is_create_ec number e))
-      (λ past_ec. from CREATE_SC past_ec (λ e. rw (is_create_sc number e))
-      (λ past_sc. from CREATE_PT past_sc (λ e. rw (is_create_pt number e))
-      (λ past_pt. from CREATE_SM past_pt (λ e. rw (is_create_sm number e))
-      (λ past_sm. from REVOKE past_sm (λ e. rw (is_revoke number e)) (λ past_revoke. rw (is_lookup number (omega arith))))))))
-
-  built_none : (number ≡ CALL → ⊥) → (CREATE_PD ≤ number → number ≤ LOOKUP → ⊥) → (number ≡ SM_CTRL → ⊥) → is_built number ≡ false
-  built_none a b c =
-      rw (is_not_built number a (λ e. b (omega arith) (omega arith)) (λ e. b (omega arith) (omega arith)) (λ e. b (omega arith) (omega arith))
-      (λ e. b (omega arith) (omega arith)) (λ e. b (omega arith) (omega arith)) (λ e. b (omega arith) (omega arith)) (λ e. b (omega arith) (omega arith)) c)
-
-  -- so the test of these numbers tells
-  pub built_test : ((eqb number CALL || (leb CREATE_PD number && leb number LOOKUP)) || eqb number SM_CTRL) ≡ is_built number
-  built_test =
-      cases (eqb number CALL) (λ (t : eqb number CALL ≡ true). rw t (sym (built_call (eqb-true number CALL t))))
-      (λ (not_call : eqb number CALL ≡ false).
-      cases (leb CREATE_PD number && leb number LOOKUP)
-      (λ (t : (leb CREATE_PD number && leb number LOOKUP) ≡ true).
-      rw (not_call, t)
-      (sym
-      (built_range (leb-true CREATE_PD number (and_left (leb CREATE_PD number) (leb number LOOKUP) t))
-      (leb-true number LOOKUP (and_right (leb CREATE_PD number) (leb number LOOKUP) t)))))
-      (λ (outside : (leb CREATE_PD number && leb number LOOKUP) ≡ false).
-      cases (eqb number SM_CTRL) (λ (t : eqb number SM_CTRL ≡ true). rw (not_call, outside, t) (sym (built_sm_ctrl (eqb-true number SM_CTRL t))))
-      (λ (f : eqb number SM_CTRL ≡ false).
-      rw (not_call, outside, f)
-      (sym
-      (built_none (eqb-false number CALL not_call)
-      (λ low high. true≢false (sym (both (leb CREATE_PD number) (leb number LOOKUP) (le-leb CREATE_PD number low) (le-leb number LOOKUP high)) ∙ outside))
-      (eqb-false number SM_CTRL f))))))
+-- the rule of each hypercall's number
+pub has_rule : (call : Hypercall) → hypercall (number_of call) ≡ rule (rule_of call)
+has_rule CallNamed = is_call _ refl
+has_rule CreatePd = is_create_pd _ refl
+has_rule CreateEc = is_create_ec _ refl
+has_rule CreateSc = is_create_sc _ refl
+has_rule CreatePt = is_create_pt _ refl
+has_rule CreateSm = is_create_sm _ refl
+has_rule Revoke = is_revoke _ refl
+has_rule Lookup = is_lookup _ refl
+has_rule SmCtrl = is_sm_ctrl _ refl
 
 -- LOOKUP takes no steps
 lookup_steps : (s : State) (c : Call) → effects_of (lookup s c) ≡ []

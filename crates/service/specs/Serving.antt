@@ -1,6 +1,6 @@
 -- Serving a hypercall: the call that the arguments make, and what serving it promises.
 use Rattle.std.specs.Prelude.{ℕ, ◌≡◌, List}
-use Rattle.reply.specs.declared.Reply.{Reply}
+use Rattle.reply.specs.Replies.{Reply}
 use Rattle.interface.specs.Places.{Tables}
 use Rattle.interface.specs.Verdicts.{Call}
 use Rattle.interface.specs.Outcomes.{call_of, outcome}

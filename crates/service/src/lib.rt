@@ -5,12 +5,12 @@ ghost use Rattle.std.specs.Prelude.{◌≡◌, true};
 ghost use Rattle.interface.specs.Places.{tables};
 ghost use Rattle.interface.specs.Damage.{sound};
 ghost use Rattle.capabilities.specs.Callers.{Called};
-ghost use Rattle.service.specs.Admission.{is_built, admission};
+ghost use Rattle.service.specs.Admission.{number_of, Reads, Admits};
 ghost use Rattle.service.specs.Serving.{call_with, Serves};
 
 use interface::numbers;
-use layout::{FoundObject, ObjectNumber};
-use reply::Reply;
+use layout::ObjectNumber;
+use reply::{Refusal, Reply};
 
 // The six words after a hypercall's number and its caller: a call takes as many as it has.
 #[derive(Clone, Copy)]
@@ -23,42 +23,69 @@ pub struct CallWords {
     pub sixth: u32,
 }
 
-// A caller that is an EC, or the refusal.
+// A hypercall that is built.
 #[derive(Clone, Copy)]
-enum Admitted {
-    Ec(ObjectNumber),
-    Refused(Reply),
+enum Hypercall {
+    Call,
+    CreatePd,
+    CreateEc,
+    CreateSc,
+    CreatePt,
+    CreateSm,
+    Revoke,
+    Lookup,
+    SmCtrl,
 }
 
-// Whether a hypercall number is built.
-fn is_built(number: u32) -> bool
-    ensures { result ≡ is_built number }
-{
-    (number == numbers::CALL)
-        | ((numbers::CREATE_PD <= number) & (number <= numbers::LOOKUP))
-        | (number == numbers::SM_CTRL)
+// A number that no built hypercall has.
+#[derive(Clone, Copy)]
+struct NotBuilt;
+
+impl TryFrom<u32> for Hypercall {
+    type Error = NotBuilt;
+
+    ghost try_from_gives = { Reads };
+
+    fn try_from(number: u32) -> Result<Hypercall, NotBuilt> {
+        match number {
+            numbers::CALL => Ok(Hypercall::Call),
+            numbers::CREATE_PD => Ok(Hypercall::CreatePd),
+            numbers::CREATE_EC => Ok(Hypercall::CreateEc),
+            numbers::CREATE_SC => Ok(Hypercall::CreateSc),
+            numbers::CREATE_PT => Ok(Hypercall::CreatePt),
+            numbers::CREATE_SM => Ok(Hypercall::CreateSm),
+            numbers::REVOKE => Ok(Hypercall::Revoke),
+            numbers::LOOKUP => Ok(Hypercall::Lookup),
+            numbers::SM_CTRL => Ok(Hypercall::SmCtrl),
+            _ => Err(NotBuilt),
+        }
+    }
 }
 
-// On sound tables the number is tested before the caller, and the caller before a call's own checks.
-fn admit(number: u32, caller: u32, places: &[u32], objects: &[u32]) -> Admitted
+// A built hypercall with its caller, which is an EC. On sound tables the number is tested before the caller, and the caller before a call's own checks.
+fn admit(
+    number: u32,
+    caller: u32,
+    places: &[u32],
+    objects: &[u32],
+) -> Result<(Hypercall, ObjectNumber), Refusal>
     requires { sound (tables places.now objects.now) ≡ true }
-    ensures { result ≡ admission places.now objects.now number caller }
+    ensures { Admits places.now objects.now number caller result }
 {
-    if !is_built(number) {
-        return Admitted::Refused(Reply::BadHyp);
-    }
-    let FoundObject::Numbered(found) = ObjectNumber::found(caller) else {
-        return Admitted::Refused(Reply::BadCaller);
+    let Ok(hypercall) = Hypercall::try_from(number) else {
+        return Err(Refusal::BadHyp);
     };
+    let found = ObjectNumber::found(caller).ok_or(Refusal::BadCaller)?;
     if objects::load(objects, found, objects::KIND) != objects::EC {
-        return Admitted::Refused(Reply::BadCaller);
+        return Err(Refusal::BadCaller);
     }
-    Admitted::Ec(found)
+    Ok((hypercall, found))
 }
 
 // A hypercall by an EC on sound tables.
+// The tables and no struct of both: CALL and REVOKE change the places alone, SM_CTRL the objects alone, and LOOKUP neither.
 fn dispatch(
-    number: u32,
+    hypercall: Hypercall,
     caller: ObjectNumber,
     words: CallWords,
     places: &mut [u32],
@@ -67,12 +94,12 @@ fn dispatch(
     target: &mut [u32],
 ) -> Reply
     requires { Called places.old objects.old caller.0 }
-    ensures { Serves (call_with number caller.0 words source.now target.old) (tables places.old objects.old)
+    ensures { Serves (call_with (number_of hypercall) caller.0 words source.now target.old) (tables places.old objects.old)
         (tables places.new objects.new) target.new result }
 {
-    match number {
-        numbers::CALL => portals::call(caller, words.first, places, objects, source, target),
-        numbers::CREATE_PD => creations::create_pd(
+    match hypercall {
+        Hypercall::Call => portals::call(caller, words.first, places, objects, source, target),
+        Hypercall::CreatePd => creations::create_pd(
             caller,
             words.first,
             words.second,
@@ -80,16 +107,7 @@ fn dispatch(
             places,
             objects,
         ),
-        numbers::CREATE_EC => creations::create_ec(
-            caller,
-            words.first,
-            words.second,
-            words.third,
-            words.fourth,
-            places,
-            objects,
-        ),
-        numbers::CREATE_SC => creations::create_sc(
+        Hypercall::CreateEc => creations::create_ec(
             caller,
             words.first,
             words.second,
@@ -98,7 +116,16 @@ fn dispatch(
             places,
             objects,
         ),
-        numbers::CREATE_PT => creations::create_pt(
+        Hypercall::CreateSc => creations::create_sc(
+            caller,
+            words.first,
+            words.second,
+            words.third,
+            words.fourth,
+            places,
+            objects,
+        ),
+        Hypercall::CreatePt => creations::create_pt(
             caller,
             words.first,
             words.second,
@@ -109,7 +136,7 @@ fn dispatch(
             places,
             objects,
         ),
-        numbers::CREATE_SM => creations::create_sm(
+        Hypercall::CreateSm => creations::create_sm(
             caller,
             words.first,
             words.second,
@@ -117,10 +144,15 @@ fn dispatch(
             places,
             objects,
         ),
-        numbers::REVOKE => revocation::revoke(caller, words.first, words.second, places, objects),
-        numbers::LOOKUP => lookup::look_up(caller, words.first, places, objects),
-        numbers::SM_CTRL => semaphores::sm_ctrl(caller, words.first, words.second, places, objects),
-        _ => Reply::BadHyp,
+        Hypercall::Revoke => revocation::revoke(caller, words.first, words.second, places, objects),
+        Hypercall::Lookup => lookup::look_up(caller, words.first, places, objects),
+        Hypercall::SmCtrl => semaphores::sm_ctrl(
+            caller,
+            words.first,
+            words.second,
+            places,
+            objects,
+        ),
     }
 }
 
@@ -137,11 +169,8 @@ pub fn serve(
     requires { sound (tables places.old objects.old) ≡ true }
     ensures serves { Serves (call_with number caller words source.now target.old) (tables places.old objects.old)
         (tables places.new objects.new) target.new result }
-    ensures objects_after { sound (tables places.new objects.new) ≡ true }
+    ensures sound_after { sound (tables places.new objects.new) ≡ true }
 {
-    let admitted = admit(number, caller, places, objects);
-    match admitted {
-        Admitted::Refused(reply) => reply,
-        Admitted::Ec(ec) => dispatch(number, ec, words, places, objects, source, target),
-    }
+    let (hypercall, ec) = admit(number, caller, places, objects)?;
+    dispatch(hypercall, ec, words, places, objects, source, target)
 }

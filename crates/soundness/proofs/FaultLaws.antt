@@ -1,4 +1,5 @@
 -- Faults: a rule by its number, and the first fault rule by rule.
+use Rattle.std.specs.Prelude.{Some, None}
 use Prim.Native.Nat.{ℕ, zero, suc, ◌+◌, ◌-◌, ◌≤◌, ◌<◌}
 use mathlib.Core.Path.{◌≡◌, refl, sym, ◌∙◌}
 use mathlib.Core.Bool.{Bool, true, false, not}
@@ -9,7 +10,7 @@ use lib.ListN.{get_or, drop}
 use lib.Seq.{drop-cons}
 use borrow.Author.Tests.{eqb-true, lt-ltb, le-ltb, not-true}
 use Rattle.words.specs.Sizes.{places, records}
-use Rattle.reply.specs.declared.Fault.TheVariants.{NoFault, Lengths, AtRecord, AtPlace}
+use Rattle.reply.specs.declared.Fault.TheVariants.{Lengths, AtRecord, AtPlace}
 use Rattle.interface.specs.Basics.{all_below}
 use Rattle.interface.specs.Places.{State, Tables, sized, shown}
 use Rattle.interface.specs.Damage.{Rule, of_records, fixed_record, interrupt_rule, unnamed_rule, used_first, pds_below, pd_rule, has_pd, is_ec, ec_rule, sc_rule, pt_rule, rules_of_damage, first_fault, fault}
@@ -88,7 +89,7 @@ rules_next rule g l =
 
 module _ (tables : Tables) where
   -- wrong lengths, and right ones
-  pub fault_lengths : (answer : Bool) → answer ≡ sized tables → not answer ≡ true → Lengths ≡ fault tables
+  pub fault_lengths : (answer : Bool) → answer ≡ sized tables → not answer ≡ true → Some Lengths ≡ fault tables
   unfolding fault
   fault_lengths answer e f = let wrong : sized tables ≡ false = sym e ∙ not-true answer f in rw wrong
 
@@ -97,7 +98,7 @@ module _ (tables : Tables) where
   fault_starts answer e f = rw (answered_yes answer (sized tables) e f)
 
   -- the rules all kept
-  pub fault_none : (rule : ℕ) → last_rule < rule → rule ≤ last_rule + 1 → fault tables ≡ first_fault (shown tables) (rules_from rule) → NoFault ≡ fault tables
+  pub fault_none : (rule : ℕ) → last_rule < rule → rule ≤ last_rule + 1 → fault tables ≡ first_fault (shown tables) (rules_from rule) → None ≡ fault tables
   unfolding first_fault
   fault_none rule g l h = let last : rule ≡ last_rule + 1 = omega arith in sym (rw last at h)
 
@@ -110,12 +111,12 @@ module _ (tables : Tables) where
     record_there : lowest_failing records ((rule_of rule).record_keeps_lem (shown tables)) ≡ r
     record_there = sym (lowest_r ∙ same_lowest (rule - 2) tables (of_records rule (λ s q. true)) (omega arith))
 
-    pub fault_record : r < records → AtRecord rule r ≡ fault tables
+    pub fault_record : r < records → Some (AtRecord rule r) ≡ fault tables
     unfolding first_fault lowest_failing
     fault_record b = rw (here, record_there, lt-ltb r records b, numbered rule g l)
 
     module _ (p : ℕ) (none : records ≤ r) (lowest_p : p ≡ lowest_failing places ((rule_of rule).place_keeps_lem (shown tables))) where
-      pub fault_place : p < places → AtPlace rule p ≡ fault tables
+      pub fault_place : p < places → Some (AtPlace rule p) ≡ fault tables
       unfolding first_fault lowest_failing
       fault_place b = rw (here, record_there, le-ltb r records none, ← lowest_p, lt-ltb p places b, numbered rule g l)
 

@@ -1,4 +1,5 @@
 -- The rules of damage taken together: a state is sound exactly where its PDs, its other records and its places keep theirs.
+use Rattle.std.specs.Prelude.{Option, Some, None}
 use Prim.Native.Nat.{ℕ}
 use mathlib.Core.Path.{◌≡◌, sym, ◌∙◌}
 use mathlib.Core.Bool.{Bool, true, false, not, ◌&&◌}
@@ -15,8 +16,6 @@ use Rattle.interface.proofs.Basics.LoopLaws.{answered_yes, answered_no}
 use Rattle.interface.proofs.Tables.TableLaws.{places_long, objects_long, sound_sized, sound_shown}
 use Rattle.interface.proofs.Sound.Soundness.{OfRecords, OfPlaces, sound_facts, facts_sound}
 use Rattle.record_rules.specs.RecordKeeping.{records_in, record_keeps, Numbered, Kept, counted_pds}
-use Rattle.record_rules.specs.declared.CountedPds.{CountedPds}
-use Rattle.record_rules.specs.declared.CountedPds.TheVariants.{InTurn, OutOfTurn}
 use Rattle.record_rules.proofs.PdLaws.{turns_kept, turns_broken}
 use Rattle.record_rules.proofs.RecordParts.{caps_apart, record_parts}
 use Rattle.place_rules.specs.PlaceKeeping.{place_keeps}
@@ -70,7 +69,7 @@ module _ (place_table_lem object_table_lem : List ℕ) (answer : Bool) (asked : 
   objects_right = objects_long (tables place_table_lem object_table_lem) both_right
 
   -- and used records that come first, and PDs that keep their rule and have been counted
-  pub numbered_so : {pds : ℕ} (found : CountedPds) → found ≡ counted_pds (records_in object_table_lem) → found ≡ InTurn pds → Numbered object_table_lem pds
+  pub numbered_so : {pds : ℕ} (found : (Option ℕ)) → found ≡ counted_pds (records_in object_table_lem) → found ≡ Some pds → Numbered object_table_lem pds
   numbered_so {pds} found is_found in_turn_lem =
       let kept = turns_kept (records_in object_table_lem) pds (sym is_found ∙ in_turn_lem) in
       record { long = objects_right; used = kept.0; in_turn_lem = kept.1; counted = kept.2 }
@@ -88,7 +87,7 @@ module _ (tables : Tables) where
   parts : sound tables ≡ true → Parts (shown tables)
   parts h = sound_parts (shown tables) (sound_shown tables h)
 
-  pub pds_broken : (found : CountedPds) → found ≡ counted_pds (records_in tables.objects) → found ≡ OutOfTurn → false ≡ sound tables
+  pub pds_broken : (found : (Option ℕ)) → found ≡ counted_pds (records_in tables.objects) → found ≡ None → false ≡ sound tables
   unfolding used_first pds_below pd_rule
   pds_broken found is_found out =
       let s = records_in tables.objects in

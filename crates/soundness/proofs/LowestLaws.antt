@@ -1,38 +1,42 @@
--- The lowest number that a test fails of, number by number.
-use Prim.Native.Nat.{ℕ, zero, suc, ◌≤◌, ◌<◌}
-use mathlib.Core.Path.{◌≡◌, refl, sym, ◌∙◌}
+-- The lowest number that a test fails of, if it fails of one.
+use Prim.Native.Nat.{ℕ, ◌≤◌, ◌<◌}
+use mathlib.Core.Path.{◌≡◌}
 use mathlib.Core.Bool.{Bool, true, false, not}
 use native.Mathlib.Omega.{arith}
 use lib.Dec.{ltb}
-use borrow.Author.Tests.{ltb-true, ltb-false, le-ltb, not-true}
-use Rattle.interface.specs.Basics.{all_below, lowest}
-use Rattle.interface.proofs.Basics.BoolLaws.{cases, not_both, and_left, and_right}
-use Rattle.interface.proofs.Basics.BelowLaws.{all_below_at, lowest_holds, below_lowest}
-use Rattle.soundness.specs.RuleNumbers.{lowest_failing}
+use borrow.Author.Tests.{ltb-true, ltb-false, lt-ltb, le-ltb}
+use Rattle.std.specs.declared.option.Option.{Option}
+use Rattle.std.specs.declared.option.Option.TheVariants.{Some, None}
+use Rattle.std.specs.Option.{MatchOption}
+use Rattle.interface.specs.Basics.{lowest}
+use Rattle.interface.proofs.Basics.BoolLaws.{cases}
+use Rattle.soundness.specs.RuleNumbers.{lowest_failing, first_failing}
 
-module _ (test : ℕ → Bool) where
-  -- the lowest number that a test fails of is the first one that it fails of, or the number of all where it holds of each
-  pub lowest_first : (n i : ℕ) (holds : Bool) → i < n → all_below i test ≡ true → holds ≡ test i → not holds ≡ true → i ≡ lowest_failing n test
+module _ (n : ℕ) (test : ℕ → Bool) where
+  -- what a search for it finds
+  pub found_failing : (r : Option ℕ) → MatchOption r (lowest n (λ i. not (test i)) ≡ n) (λ i. (i < n) × (lowest n (λ k. not (test k)) ≡ i)) → r ≡ first_failing n test
   unfolding lowest_failing
-  lowest_first n i holds l h e f =
-      let low = lowest n (λ j. not (test j)) in
-      let broken : not (test i) ≡ true = rw (← e) f in
-      cases (ltb i low)
-      (λ (t : ltb i low ≡ true). not_both (not (test i)) broken (below_lowest n (λ j. not (test j)) i (ltb-true i low t)))
-      (λ (g : ltb i low ≡ false).
-      let upto : low ≤ i = ltb-false i low g in
-      cases (ltb low i)
-      (λ (t : ltb low i ≡ true).
-      let before : low < i = ltb-true low i t in
-      not_both (test low) (all_below_at i test h low before) (not-true (test low) (lowest_holds n (λ j. not (test j)) (omega arith))))
-      (λ (b : ltb low i ≡ false). omega (arith, ltb-false low i b)))
+  found_failing None e = rw (e, le-ltb n n (omega arith))
+  found_failing (Some i) (l, e) = rw (e, lt-ltb i n l)
 
-  lowest_all : (n : ℕ) → all_below n test ≡ true → lowest n (λ j. not (test j)) ≡ n
-  unfolding all_below lowest
-  lowest_all zero h = refl
-  lowest_all (suc n) h =
-      rw (lowest_all n (and_left (all_below n test) (test n) h), le-ltb n n (omega arith), and_right (all_below n test) (test n) h)
+  -- and what it tells
+  pub failing_there : (i : ℕ) (r : Option ℕ) → r ≡ first_failing n test → r ≡ Some i → (i < n) × (i ≡ lowest_failing n test)
+  failing_there i r asked found =
+      cases (ltb (lowest_failing n test) n)
+      (λ (t : ltb (lowest_failing n test) n ≡ true).
+      let is : r ≡ Some (lowest_failing n test) = rw t at asked in
+      let same : i ≡ lowest_failing n test = cc in
+      (rw same (ltb-true (lowest_failing n test) n t), same))
+      (λ (f : ltb (lowest_failing n test) n ≡ false).
+      let is : r ≡ None = rw f at asked in
+      let never : ◌≡◌ {A = ℕ} 0 1 = cc in
+      absurd (omega arith))
 
-  pub lowest_none : (n i : ℕ) → i ≤ n → n ≤ i → all_below i test ≡ true → i ≡ lowest_failing n test
-  unfolding lowest_failing
-  lowest_none n i l g h = let e : i ≡ n = omega arith in e ∙ sym (lowest_all n (rw e at h))
+  pub failing_nowhere : (r : Option ℕ) → r ≡ first_failing n test → r ≡ None → n ≤ lowest_failing n test
+  failing_nowhere r asked none =
+      cases (ltb (lowest_failing n test) n)
+      (λ (t : ltb (lowest_failing n test) n ≡ true).
+      let is : r ≡ Some (lowest_failing n test) = rw t at asked in
+      let never : ◌≡◌ {A = ℕ} 0 1 = cc in
+      absurd (omega arith))
+      (λ (f : ltb (lowest_failing n test) n ≡ false). ltb-false (lowest_failing n test) n f)

@@ -2,18 +2,17 @@
 ghost use Rattle.std.specs.Prelude.{◌≡◌, ◌<◌, ◌≤◌, length};
 ghost use Rattle.words.specs.Sizes.{places, records};
 ghost use Rattle.interface.specs.Places.{object_table_words, place_table_words, shown};
-ghost use Rattle.interface.specs.Damage.{live_place};
 ghost use Rattle.record_rules.specs.RecordKeeping.{records_in};
-ghost use Rattle.soundness.specs.RuleNumbers.{lowest_failing, first_rule, last_rule, rule_of};
+ghost use Rattle.soundness.specs.RuleNumbers.{first_failing, first_rule, last_rule, rule_of};
 
 use words::sizes;
 
-// The numbers of the first rule after that of lengths, and of the last.
+// The numbers of the first rule after that of lengths, and of the last. A fault is told by its rule's number (interface's Rule), so rules stay numbers here too.
 pub const FIRST_RULE: u32 = 2;
 
 pub const LAST_RULE: u32 = 12;
 
-// Whether a record keeps a rule.
+// Whether a record keeps a rule. A closure for each rule would need these arms too.
 fn record_keeps_rule(rule: u32, objects: &[u32], number: u32) -> bool
     requires { (first_rule ≤ rule) × (rule ≤ last_rule) × (length objects.now ≡ object_table_words) × (number < records) }
     ensures { result ≡ (rule_of rule).record_keeps_lem (records_in objects.now) number }
@@ -38,14 +37,6 @@ fn record_keeps_rule(rule: u32, objects: &[u32], number: u32) -> bool
     }
 }
 
-// Rule 11, of a place that may be null.
-fn live_or_null(table: &[u32], objects: &[u32], place: u32) -> bool
-    requires { (length table.now ≡ place_table_words) × (length objects.now ≡ object_table_words) × (place < places) }
-    ensures { result ≡ live_place (shown (record { places = table.now; objects = objects.now })) place }
-{
-    place_rules::live_or_null(table, objects, place)
-}
-
 // Whether a place keeps a rule.
 fn place_keeps_rule(rule: u32, table: &[u32], objects: &[u32], place: u32) -> bool
     requires { (first_rule ≤ rule) × (rule ≤ last_rule) × (length table.now ≡ place_table_words) × (length objects.now ≡ object_table_words) × (place < places) }
@@ -54,38 +45,24 @@ fn place_keeps_rule(rule: u32, table: &[u32], objects: &[u32], place: u32) -> bo
     match rule {
         2 => place_rules::fixed_keeps(table, place),
         10 => place_rules::null_keeps(place_rules::cap_at(table, place)),
-        11 => live_or_null(table, objects, place),
+        11 => place_rules::live_or_null(table, objects, place),
         12 => place_rules::cap_at(table, place).depth <= sizes::GREATEST_DEPTH,
         _ => true,
     }
 }
 
-// The lowest record that breaks a rule, and the number of records where none does.
-pub fn lowest_record(rule: u32, objects: &[u32]) -> u32
+// The lowest record that breaks a rule, if one does.
+pub fn lowest_record(rule: u32, objects: &[u32]) -> Option<u32>
     requires { (first_rule ≤ rule) × (rule ≤ last_rule) × (length objects.now ≡ object_table_words) }
-    ensures { result ≡ lowest_failing records ((rule_of rule).record_keeps_lem (records_in objects.now)) }
+    ensures { result ≡ first_failing records ((rule_of rule).record_keeps_lem (records_in objects.now)) }
 {
-    let mut at: u32 = 0;
-    while at < sizes::RECORDS {
-        if !record_keeps_rule(rule, objects, at) {
-            return at;
-        }
-        at += 1;
-    }
-    at
+    (0..sizes::RECORDS).find(|&number| !record_keeps_rule(rule, objects, number))
 }
 
-// The lowest place that breaks a rule, and the number of places where none does.
-pub fn lowest_place(rule: u32, table: &[u32], objects: &[u32]) -> u32
+// The lowest place that breaks a rule, if one does. It differs from the search for a record in what its test reads.
+pub fn lowest_place(rule: u32, table: &[u32], objects: &[u32]) -> Option<u32>
     requires { (first_rule ≤ rule) × (rule ≤ last_rule) × (length table.now ≡ place_table_words) × (length objects.now ≡ object_table_words) }
-    ensures { result ≡ lowest_failing places ((rule_of rule).place_keeps_lem (shown (record { places = table.now; objects = objects.now }))) }
+    ensures { result ≡ first_failing places ((rule_of rule).place_keeps_lem (shown (record { places = table.now; objects = objects.now }))) }
 {
-    let mut at: u32 = 0;
-    while at < sizes::PLACES {
-        if !place_keeps_rule(rule, table, objects, at) {
-            return at;
-        }
-        at += 1;
-    }
-    at
+    (0..sizes::PLACES).find(|&place| !place_keeps_rule(rule, table, objects, place))
 }

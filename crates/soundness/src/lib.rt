@@ -4,9 +4,7 @@
 ghost use Rattle.std.specs.Prelude.{◌≡◌};
 ghost use Rattle.interface.specs.Damage.{sound, fault};
 
-use record_rules::CountedPds;
 use reply::Fault;
-use words::sizes;
 
 mod faults;
 
@@ -17,36 +15,28 @@ pub fn is_sound(places: &[u32], objects: &[u32]) -> bool
     if !boot::are_sized(places, objects) {
         return false;
     }
-    let CountedPds::InTurn(pds) = record_rules::pds_in_turn(objects) else {
+    let Some(pds) = record_rules::pds_in_turn(objects) else {
         return false;
     };
-    if !record_rules::records_keep(objects, pds) {
-        return false;
-    }
-    if !hypervisor_rules::hypervisor_keeps(places) {
-        return false;
-    }
-    place_pass::places_keep(places, objects, pds)
+    record_rules::records_keep(objects, pds)
+        && hypervisor_rules::hypervisor_keeps(places)
+        && place_pass::places_keep(places, objects, pds)
 }
 
-// The first rule that two tables break, and the lowest record or else the lowest place that breaks it.
-pub fn first_fault(places: &[u32], objects: &[u32]) -> Fault
+// The first rule that two tables break, and the lowest record or else the lowest place that breaks it: for each rule records come before places, and so one loop has both searches.
+pub fn first_fault(places: &[u32], objects: &[u32]) -> Option<Fault>
     ensures { result ≡ fault (record { places = places.now; objects = objects.now }) }
 {
     if !boot::are_sized(places, objects) {
-        return Fault::Lengths;
+        return Some(Fault::Lengths);
     }
-    let mut rule: u32 = faults::FIRST_RULE;
-    while rule <= faults::LAST_RULE {
-        let number = faults::lowest_record(rule, objects);
-        if number < sizes::RECORDS {
-            return Fault::AtRecord(rule, number);
+    for rule in faults::FIRST_RULE..faults::LAST_RULE + 1 {
+        if let Some(number) = faults::lowest_record(rule, objects) {
+            return Some(Fault::AtRecord(rule, number));
         }
-        let place = faults::lowest_place(rule, places, objects);
-        if place < sizes::PLACES {
-            return Fault::AtPlace(rule, place);
+        if let Some(place) = faults::lowest_place(rule, places, objects) {
+            return Some(Fault::AtPlace(rule, place));
         }
-        rule += 1;
     }
-    Fault::NoFault
+    None
 }

@@ -4,9 +4,11 @@ use mathlib.Core.Path.{◌≡◌, refl, sym, ap, ◌∙◌, subst}
 use mathlib.Core.List.{List, [], ◌∷◌, ◌++◌}
 use native.Mathlib.Nat.{add_assoc, add-zero}
 use native.Mathlib.Omega.{arith}
-use lib.ListN.{length, set, replicate, length-append, length-set, length-replicate, replicate-append-replicate}
+use lib.ListN.{length, take, drop, set, replicate, length-append, length-set, length-replicate}
+use borrow.Rule.Slice.PartMut.{put_mid}
+use Rattle.std.proofs.lemmas.Slice.{put_mid-paste}
 use Rattle.io.specs.Digits.{hex_digit_ascii, last_digits}
-use Rattle.endian.proofs.PartLaws.{written_nothing, written_then, byte_written}
+use Rattle.endian.proofs.PartLaws.{length_part, written_nothing, written_then, length_written, byte_written, copied_whole}
 use Rattle.interface.specs.Journal.{decimal, blank}
 use Rattle.texts.specs.Texts.{hexadecimal, padded, Wrote}
 use Rattle.texts.proofs.DecimalLaws.{length_digits, decimal_at_most}
@@ -39,11 +41,18 @@ wrote_byte before middle text at next byte fits room wrote =
 pub number_ends : (k number byte : ℕ) {before after : List ℕ} {at end : ℕ} → number < 10 ^ suc k → Wrote before at (decimal number ++ (byte ∷ [])) after end → end ≤ at + (k + 2)
 number_ends k number byte small wrote = omega (arith, wrote.ends, length-append (decimal number) (byte ∷ []), decimal_at_most k number small)
 
--- a turn of the loop that writes blanks
-pub blank_more : (before middle : List ℕ) (at next count : ℕ) → at ≤ length before → next < length middle → Wrote before at (replicate count blank) middle next →
-    Wrote before at (replicate (count + 1) blank) (set middle next blank) (next + 1)
-blank_more before middle at next count fits room wrote =
-    rw (replicate-append-replicate count 1 blank) at (wrote_byte before middle (replicate count blank) at next blank fits room wrote)
+-- blanks that fill a part of a buffer, which keeps its length
+pub blanks_written : (before filled : List ℕ) (at end count : ℕ) → end ≡ at + count → end ≤ length before → filled ≡ replicate (length (take (end - at) (drop at before))) blank →
+    Wrote before at (replicate count blank) (put_mid at (end - at) before filled) end × (length (put_mid at (end - at) before filled) ≡ length before)
+blanks_written before filled at end count ends fits is_filled =
+    let blanks = replicate count blank in
+    let long : length blanks ≡ count = length-replicate count blank in
+    let size : end - at ≡ count = omega arith in
+    let all : filled ≡ blanks = is_filled ∙ ap (λ (k : ℕ). replicate k blank) (length_part before at (end - at) (omega arith) ∙ size) in
+    let whole : end - at ≡ length blanks = omega arith in
+    let leaves = copied_whole before blanks _ at (end - at) whole (put_mid-paste at (end - at) before filled blanks (end - at) all refl whole) in
+    let same = ap length leaves ∙ length_written before at (omega arith) blanks (omega arith) in
+    (record { leaves = leaves; ends = omega arith; fits = omega arith }, same)
 
 -- how long a text with blanks before it is
 pub length_padded : (width : ℕ) (text : List ℕ) → length (padded width text) ≡ width - length text + length text

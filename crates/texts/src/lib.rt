@@ -1,9 +1,9 @@
-// Text in ASCII, written into a buffer that is lent.
+// Text in ASCII, written into a buffer that is lent. By hand and not by `Display`: std says nothing of what a formatter writes, and each byte of this text is promised.
 #![tactic(auto)]
 
-ghost use Rattle.std.specs.Prelude.{◌+◌, ◌-◌, ◌≤◌, ◌<◌, ◌≡◌, [], ◌∷◌, ◌++◌, length, replicate};
+ghost use Rattle.std.specs.Prelude.{◌+◌, ◌≤◌, ◌<◌, ◌≡◌, [], ◌∷◌, ◌++◌, length};
 ghost use Rattle.io.specs.Digits.{hex_digit_ascii, last_digits};
-ghost use Rattle.interface.specs.Journal.{decimal, blank};
+ghost use Rattle.interface.specs.Journal.{decimal};
 ghost use Rattle.texts.specs.Texts.{hexadecimal, padded, Wrote};
 
 // Copies a text into a buffer at a place. Answers where the text ends.
@@ -35,21 +35,6 @@ pub fn put_number(out: &mut [u8], at: usize, number: u64, after: u8) -> usize
     end + 1
 }
 
-// Writes a blank for each number from one to before another. Answers where they end.
-fn put_blanks(out: &mut [u8], at: usize, from: usize, to: usize) -> usize
-    requires { at + (to - from) ≤ length out.old }
-    ensures { Wrote out.old at (replicate (to - from) blank) out.new result }
-{
-    let mut end = at;
-    let mut i = from;
-    while i < to {
-        out[end] = b' ';
-        end += 1;
-        i += 1;
-    }
-    end
-}
-
 // Writes a number in decimal at the right end of so many bytes, with blanks before it. Answers where the number ends: a number of more digits takes more bytes.
 pub fn put_right(out: &mut [u8], at: usize, width: usize, number: u64) -> usize
     requires { at + length (padded width (decimal number)) ≤ length out.old }
@@ -57,7 +42,8 @@ pub fn put_right(out: &mut [u8], at: usize, width: usize, number: u64) -> usize
 {
     let mut digits = [0u8; 20];
     let count = io::decimal(number, &mut digits);
-    let start = put_blanks(out, at, count, width);
+    let start = at + width.saturating_sub(count);
+    out[at..start].fill(b' ');
     put(out, start, &digits[..count])
 }
 

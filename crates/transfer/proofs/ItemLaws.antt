@@ -1,4 +1,5 @@
 -- Laws of one typed item: the domain that it is delegated from, and what each way out of the code says of the definition.
+use Rattle.std.specs.Prelude.{Ok, Err}
 use Prim.Native.Nat.{ℕ, ◌+◌, ◌%◌, ◌^◌, ◌≤◌}
 use mathlib.Core.Path.{◌≡◌, refl, sym, subst, ◌∙◌}
 use mathlib.Core.Bool.{true, false, ◌&&◌}
@@ -10,13 +11,9 @@ use Rattle.words.specs.Sizes.{object, selectors, place_of}
 use Rattle.words.proofs.RangeLaws.{ends_inside}
 use Rattle.descriptor.specs.declared.Range.{Range}
 use Rattle.descriptor.specs.declared.Reading.{Reading}
-use Rattle.descriptor.specs.declared.Match.{Match}
-use Rattle.descriptor.specs.declared.Match.TheVariants.{Both, Neither}
-use Rattle.descriptor.specs.declared.Received.{Received}
-use Rattle.descriptor.specs.declared.Received.TheVariants.{NullItem, Shows}
+use Rattle.descriptor.specs.Descriptors.{Match, Received, Proper, ShownProper}
 use Rattle.descriptor.specs.declared.Reason.{Reason}
 use Rattle.descriptor.specs.declared.Reason.TheVariants.{NothingFilled}
-use Rattle.descriptor.specs.Descriptors.{Proper, ShownProper}
 use Rattle.descriptor.proofs.DescriptorLaws.{proper_end}
 use Rattle.interface.specs.Places.{State, places_in}
 use Rattle.interface.specs.Boot.{hypervisor, root}
@@ -55,10 +52,10 @@ delegations_few from to hotspot item window s m =
     omega (arith, proper_end m.item_proper)
 
 -- what an outcome shows is proper
-null_proper : (reason : Reason) → ShownProper (NullItem reason)
+null_proper : (reason : Reason) → ShownProper (Err reason)
 null_proper reason range e = let never : ◌≡◌ {A = ℕ} 0 1 = cc in absurd (omega arith)
 
-shown_proper : (shown : Range) → Proper shown → ShownProper (Shows shown)
+shown_proper : (shown : Range) → Proper shown → ShownProper (Ok shown)
 shown_proper shown proper range e = let same : shown ≡ range = cc in subst Proper same proper
 
 -- a delegated item, by how many places its delegations filled
@@ -68,7 +65,7 @@ module _ (sender receiver second : ℕ) (item window : Range) {before after : Li
   taken_there = rw (f, h) at t
 
   pub delegated_none : filled ≡ 0 →
-      Done before after (delegate_item (places_in before) sender receiver second (Both item window)) (record { received = NullItem NothingFilled; filled = 0 })
+      Done before after (delegate_item (places_in before) sender receiver second (Ok (item, window))) (record { received = Err NothingFilled; filled = 0 })
   unfolding delegate_item
   delegated_none e =
       record {
@@ -79,7 +76,7 @@ module _ (sender receiver second : ℕ) (item window : Range) {before after : Li
       }
 
   pub delegated_some : {range : Range} → Matched item window → (filled ≡ 0 → ⊥) → range ≡ destination_of hotspot item window →
-      Done before after (delegate_item (places_in before) sender receiver second (Both item window)) (record { received = Shows range; filled = filled })
+      Done before after (delegate_item (places_in before) sender receiver second (Ok (item, window))) (record { received = Ok range; filled = filled })
   unfolding delegate_item
   delegated_some {range} pair n r =
       record {
@@ -98,28 +95,28 @@ module _ (table : List ℕ) (sender receiver descriptor second : ℕ) (translati
     is_delegated : the_item ≡ delegate_item (places_in table) sender receiver second match
     is_delegated = rw (eq-eqb (delegate_bit second) 1 (omega arith), m)
 
-    pub delegated_null : (reason : Reason) → match ≡ Neither reason → Sized table →
-        Done table table the_item (record { received = NullItem reason; filled = 0 })
+    pub delegated_null : (reason : Reason) → match ≡ Err reason → Sized table →
+        Done table table the_item (record { received = Err reason; filled = 0 })
     unfolding delegate_item
     delegated_null reason e sized =
         rw (is_delegated, e) (record { shown = refl; proper = null_proper reason; taken = taken_none sized; few = omega arith })
 
-    pub delegated_both : {item window : Range} {after : List ℕ} {outcome : Outcome} → match ≡ Both item window →
-        Done table after (delegate_item (places_in table) sender receiver second (Both item window)) outcome → Done table after the_item outcome
+    pub delegated_both : {item window : Range} {after : List ℕ} {outcome : Outcome} → match ≡ Ok (item, window) →
+        Done table after (delegate_item (places_in table) sender receiver second (Ok (item, window))) outcome → Done table after the_item outcome
     delegated_both e d = rw (is_delegated, e) d
 
   module _ {match : Match} (bit : second % 2 ≡ 1 → ⊥) (m : match ≡ matched (reading descriptor) translating) where
     is_translated : the_item ≡ translate_item (places_in table) sender receiver match
     is_translated = rw (ne_eqb (delegate_bit second) 1 (λ e. bit (omega arith)), m)
 
-    pub translated_null : (reason : Reason) → match ≡ Neither reason → Sized table →
-        Done table table the_item (record { received = NullItem reason; filled = 0 })
+    pub translated_null : (reason : Reason) → match ≡ Err reason → Sized table →
+        Done table table the_item (record { received = Err reason; filled = 0 })
     unfolding translate_item
     translated_null reason e sized =
         rw (is_translated, e) (record { shown = refl; proper = null_proper reason; taken = taken_none sized; few = omega arith })
 
-    pub translated_both : {item window : Range} {received : Received} → match ≡ Both item window → Matched item window →
-        received ≡ (translate_item (places_in table) sender receiver (Both item window)).received → Sized table →
+    pub translated_both : {item window : Range} {received : Received} → match ≡ Ok (item, window) → Matched item window →
+        received ≡ (translate_item (places_in table) sender receiver (Ok (item, window))).received → Sized table →
         Done table table the_item (record { received = received; filled = 0 })
     unfolding translate_item
     translated_both {item} {window} e pair r sized =

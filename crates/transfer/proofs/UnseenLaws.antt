@@ -1,13 +1,12 @@
 -- A message does not look at the objects: over a place table it is the same whatever they are, and its steps leave them.
+use Rattle.std.specs.Prelude.{Ok, Err, if◌then◌else◌}
 use Prim.Native.Nat.{ℕ, zero, suc, ◌+◌, ◌^◌}
 use mathlib.Core.Path.{◌≡◌, refl, ap}
 use mathlib.Core.Bool.{Bool, true, false}
 use mathlib.Core.List.{List, []}
 use lib.Dec.{eqb}
 use Rattle.words.specs.Sizes.{place_of}
-use Rattle.descriptor.specs.declared.Match.{Match}
-use Rattle.descriptor.specs.declared.Match.TheVariants.{Both, Neither}
-use Rattle.std.specs.Prelude.{if◌then◌else◌}
+use Rattle.descriptor.specs.Descriptors.{Match}
 use Rattle.interface.specs.Basics.{word, listed}
 use Rattle.interface.specs.Places.{State, places_in}
 use Rattle.interface.specs.RangeDescriptors.{reading, matched}
@@ -56,8 +55,8 @@ module _ (objects : ℕ → ℕ → ℕ) where
 
   unseen_delegate : (s : State) (sender receiver second : ℕ) (match : Match) → Unseen s (λ t. delegate_item t sender receiver second match)
   unfolding delegate_item
-  unseen_delegate s sender receiver second (Neither reason) = record { same = refl; steps = unseeing_none s }
-  unseen_delegate s sender receiver second (Both item window) =
+  unseen_delegate s sender receiver second (Err reason) = record { same = refl; steps = unseeing_none s }
+  unseen_delegate s sender receiver second (Ok (item, window)) =
       let o = smaller_order item window in
       let steps =
       unseeing_gives (λ i. place_of receiver item.space (raised_base window o (hotspot_field second) + i))
@@ -66,8 +65,8 @@ module _ (objects : ℕ → ℕ → ℕ) where
 
   unseen_translate : (s : State) (sender receiver : ℕ) (match : Match) → Unseen s (λ t. translate_item t sender receiver match)
   unfolding translate_item
-  unseen_translate s sender receiver (Neither reason) = record { same = refl; steps = unseeing_none s }
-  unseen_translate s sender receiver (Both item window) = record { same = refl; steps = unseeing_none s }
+  unseen_translate s sender receiver (Err reason) = record { same = refl; steps = unseeing_none s }
+  unseen_translate s sender receiver (Ok (item, window)) = record { same = refl; steps = unseeing_none s }
 
   -- an item that is one or the other
   unseen_either : (s : State) (first : Bool) (a b : State → Item) → Unseen s a → Unseen s b → Unseen s (λ t. if first then a t else b t)

@@ -1,23 +1,21 @@
 // A message from block to block: the untyped words, and the typed items, each translated or delegated in its turn.
 #![tactic(auto)]
 
-ghost use Rattle.std.specs.Prelude.{◌<◌, ◌≤◌, ◌≡◌};
+ghost use Rattle.std.specs.Prelude.{Err, Ok, ◌<◌, ◌≤◌, ◌≡◌};
 ghost use Rattle.words.specs.Sizes.{domains};
-ghost use Rattle.descriptor.specs.declared.Match.TheVariants.{Both};
-ghost use Rattle.descriptor.specs.declared.Received.TheVariants.{NullItem};
 ghost use Rattle.descriptor.specs.Descriptors.{why_null, ReadProper, ShownProper};
 ghost use Rattle.interface.specs.Places.{cap_at, places_in};
 ghost use Rattle.interface.specs.Message.{received_word, received_second, source_domain, delegate_item, transfer};
 ghost use Rattle.places.specs.Table.{Sized};
 ghost use Rattle.descent.specs.Walks.{Linked};
 ghost use Rattle.blocks.specs.Fitting.{Blocks};
-ghost use Rattle.windows.specs.Matching.{Matched};
 ghost use Rattle.delegation.specs.Delegating.{LiveLinks};
 ghost use Rattle.transfer.specs.Typed.{item_by, Done};
 ghost use Rattle.transfer.specs.Turns.{Ready, moved_by, Transferred};
 
-use descriptor::{Descriptor, Match, Range, Reading, Reason, Received};
+use descriptor::{Descriptor, Reading, Reason, Received};
 use interface::block;
+use windows::Pair;
 use words::sizes;
 
 const ITEM_WORDS: usize = 2;
@@ -31,10 +29,10 @@ struct Outcome {
 
 // An item that is null.
 fn null_item(reason: Reason) -> Outcome
-    ensures { result ≡ record { received = NullItem reason; filled = 0 } }
+    ensures { result ≡ record { received = Err reason; filled = 0 } }
 {
     Outcome {
-        received: Received::NullItem(reason),
+        received: Err(reason),
         filled: 0,
     }
 }
@@ -55,8 +53,8 @@ fn received_word(received: Received) -> u32
     ensures { result ≡ received_word received }
 {
     match received {
-        Received::NullItem(_) => Descriptor::NULL.word(),
-        Received::Shows(range) => windows::word_of(range),
+        Err(_) => Descriptor::NULL.word(),
+        Ok(range) => windows::word_of(range),
     }
 }
 
@@ -64,20 +62,13 @@ fn received_word(received: Received) -> u32
 fn received_second(second: u32, received: Received) -> u32
     ensures { result ≡ received_second second (why_null received) }
 {
-    second % 2 + 2 * received.why_null()
+    second % 2 + 2 * descriptor::why_null(received)
 }
 
 // Delegates an item. Where nothing is filled the item is null.
-fn delegate_item(
-    table: &mut [u32],
-    sender: u32,
-    receiver: u32,
-    second: u32,
-    item: Range,
-    window: Range,
-) -> Outcome
-    requires { Sized table.old × (sender < domains) × (receiver < domains) × Matched item window }
-    ensures { Done table.old table.new (delegate_item (places_in table.old) sender receiver second (Both item window)) result }
+fn delegate_item(table: &mut [u32], sender: u32, receiver: u32, second: u32, pair: Pair) -> Outcome
+    requires { Sized table.old × (sender < domains) × (receiver < domains) }
+    ensures { Done table.old table.new (delegate_item (places_in table.old) sender receiver second (Ok (pair.item, pair.window))) result }
 {
     let hotspot = second >> 12;
     let filled = delegation::delegate(
@@ -85,14 +76,13 @@ fn delegate_item(
         source_domain(sender, second),
         receiver,
         hotspot,
-        item,
-        window,
+        pair,
     );
     if filled == 0 {
         return null_item(Reason::NothingFilled);
     }
     Outcome {
-        received: Received::Shows(windows::destination(hotspot, item, window)),
+        received: Ok(windows::destination(hotspot, pair)),
         filled,
     }
 }
@@ -112,22 +102,27 @@ fn item(
 {
     if second % 2 == 1 {
         return match windows::matching(descriptor, delegating) {
-            Match::Neither(reason) => null_item(reason),
-            Match::Both(range, window) => delegate_item(
-                table, sender, receiver, second, range, window,
-            ),
+            Err(reason) => null_item(reason),
+            Ok((range, window)) => {
+                let pair = Pair {
+                    item: range,
+                    window,
+                };
+                delegate_item(table, sender, receiver, second, pair)
+            }
         };
     }
     match windows::matching(descriptor, translating) {
-        Match::Neither(reason) => null_item(reason),
-        Match::Both(range, window) => Outcome {
+        Err(reason) => null_item(reason),
+        Ok((range, window)) => Outcome {
             received: translation::translate(table, sender, receiver, range, window),
             filled: 0,
         },
     }
 }
 
-// The typed items in turn, each on the table that those before it left. Their words are received in the words above the untyped ones, from the end downward.
+// The typed items in turn, each on the table that those before it left: a loop and no chain, since each step changes the table. Their words are received in the words above the untyped
+// ones, from the end downward.
 fn items(
     table: &mut [u32],
     sender: u32,
@@ -144,8 +139,7 @@ fn items(
 {
     let top = upper.len();
     let mut filled = 0u32;
-    let mut i: usize = 0;
-    while i < typed {
+    for i in 0..typed {
         let before = ITEM_WORDS * i;
         let descriptor = source[sizes::BLOCK_WORDS - 1 - before];
         let second = source[sizes::BLOCK_WORDS - 2 - before];
@@ -162,7 +156,6 @@ fn items(
         upper[top - 1 - before] = received_word(received);
         upper[top - 2 - before] = received_second(second, received);
         filled += outcome.filled;
-        i += 1;
     }
     filled
 }

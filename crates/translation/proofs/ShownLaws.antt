@@ -1,4 +1,5 @@
 -- A range that a translated item shows is proper.
+use Rattle.std.specs.Prelude.{Ok, Err}
 use Prim.Native.Nat.{ℕ, zero, suc, ◌^◌, ◌≤◌}
 use mathlib.Core.Path.{◌≡◌, sym, subst, ◌∙◌}
 use mathlib.Core.Bool.{true, false}
@@ -6,11 +7,8 @@ use mathlib.Core.List.{List}
 use native.Mathlib.Omega.{arith}
 use lib.Bits.{and_le_l}
 use Rattle.descriptor.specs.declared.Range.{Range}
-use Rattle.descriptor.specs.declared.Match.TheVariants.{Both}
-use Rattle.descriptor.specs.declared.Received.{Received}
-use Rattle.descriptor.specs.declared.Received.TheVariants.{NullItem, Shows}
+use Rattle.descriptor.specs.Descriptors.{Received, Proper, ShownProper}
 use Rattle.descriptor.specs.declared.Reason.TheVariants.{TranslationBroke}
-use Rattle.descriptor.specs.Descriptors.{Proper, ShownProper}
 use Rattle.interface.specs.Places.{Cap, cap_at, places_in}
 use Rattle.interface.specs.Message.{sender_place, translated_base, common, translates, translate_item}
 use Rattle.interface.proofs.Basics.BoolLaws.{cases}
@@ -26,7 +24,7 @@ common_le mask (suc n) caps = omega (arith, common_le mask n caps, and_le_l (com
 
 -- a range that a translated item shows is proper
 pub translated_proper : (table : List ℕ) (sender receiver : ℕ) (item window : Range) → Matched item window → {received : Received} →
-    received ≡ (translate_item (places_in table) sender receiver (Both item window)).received → ShownProper received
+    received ≡ (translate_item (places_in table) sender receiver (Ok (item, window))).received → ShownProper received
 unfolding translate_item
 translated_proper table sender receiver item window m e range shows =
     let caps = cap_at table in
@@ -41,7 +39,7 @@ translated_proper table sender receiver item window m e range shows =
     cases (translates caps sender receiver item window)
     (λ (t : translates caps sender receiver item window ≡ true).
     let ends = shown_ends caps sender receiver item window t in
-    let same_received : Shows shown ≡ Shows range = sym (rw t at e) ∙ shows in
+    let same_received : Ok shown ≡ Ok range = sym (rw t at e) ∙ shows in
     let same : shown ≡ range = cc in
     subst Proper same
     (record {
@@ -52,5 +50,5 @@ translated_proper table sender receiver item window m e range shows =
       mask_small = omega (arith, m.item_proper.mask_small, common_le item.mask (2 ^ item.order) held);
     }))
     (λ (f : translates caps sender receiver item window ≡ false).
-    let none : NullItem TranslationBroke ≡ Shows range = sym (rw f at e) ∙ shows in
+    let none : Err TranslationBroke ≡ Ok range = sym (rw f at e) ∙ shows in
     let never : ◌≡◌ {A = ℕ} 0 1 = cc in absurd (omega arith))

@@ -1,4 +1,5 @@
 -- Laws of translating an item: the nearest ancestor lies in the receiver's domain and in the item's space, and what each way out of the search says of the definition.
+use Rattle.std.specs.Prelude.{Option, Some, None, Ok, Err, if◌then◌else◌}
 use Prim.Native.Nat.{ℕ, zero, suc, ◌+◌, ◌-◌, ◌*◌, ◌^◌, ◌≤◌, ◌<◌}
 use mathlib.Core.Path.{◌≡◌, refl, sym, ◌∙◌}
 use mathlib.Core.Bool.{Bool, true, false, not, ◌&&◌, and_assoc}
@@ -14,17 +15,11 @@ use Rattle.words.specs.Ranges.{aligned}
 use Rattle.words.proofs.SizeLaws.{selectors_few}
 use Rattle.words.proofs.PlaceLaws.{is_place, space_back, selector_small, made_so}
 use Rattle.layout.specs.declared.Place.{Place}
-use Rattle.layout.specs.declared.FoundPlace.{FoundPlace}
-use Rattle.layout.specs.declared.FoundPlace.TheVariants.{At, Nowhere}
 use Rattle.descriptor.specs.declared.Range.{Range}
-use Rattle.descriptor.specs.declared.Match.TheVariants.{Both}
-use Rattle.descriptor.specs.declared.Received.{Received}
-use Rattle.descriptor.specs.declared.Received.TheVariants.{NullItem, Shows}
+use Rattle.descriptor.specs.Descriptors.{Received, Proper}
 use Rattle.descriptor.specs.declared.Reason.TheVariants.{TranslationBroke}
 use Rattle.layout.specs.Numbers.{linked as placeLinked}
-use Rattle.descriptor.specs.Descriptors.{Proper}
 use Rattle.layout.proofs.NumberLaws.{linked_out, linked_inside}
-use Rattle.std.specs.Prelude.{if◌then◌else◌}
 use Rattle.interface.specs.Basics.{all_below}
 use Rattle.interface.specs.Places.{Cap, cap_at, places_in}
 use Rattle.interface.specs.Effects.{chain, ancestors, among}
@@ -194,22 +189,22 @@ search_begins {item = item} pre o z b m =
 module _ {table : List ℕ} {sender receiver : ℕ} {item window : Range} {order size base mask i : ℕ}
     (s : Searching table sender receiver item window order size base mask i) where
   abbrev answer : Received
-  answer = (translate_item (places_in table) sender receiver (Both item window)).received
+  answer = (translate_item (places_in table) sender receiver (Ok (item, window))).received
 
   abbrev shown : ℕ
   shown = translated_base (cap_at table) sender receiver item
 
-  broken : translates (cap_at table) sender receiver item window ≡ false → NullItem TranslationBroke ≡ answer
+  broken : translates (cap_at table) sender receiver item window ≡ false → Err TranslationBroke ≡ answer
   unfolding translate_item
   broken f = rw f
 
-  broken_unless : (translates (cap_at table) sender receiver item window ≡ true → ⊥) → NullItem TranslationBroke ≡ answer
+  broken_unless : (translates (cap_at table) sender receiver item window ≡ true → ⊥) → Err TranslationBroke ≡ answer
   broken_unless n =
       cases (translates (cap_at table) sender receiver item window)
       (λ (t : translates (cap_at table) sender receiver item window ≡ true). absurd (n t)) broken
 
   -- what is found at the present offset
-  module _ {place : ℕ} {found : FoundPlace} (l : i < size) (p : place ≡ sender_place sender item i) (f : found ≡ placeLinked (nearest (cap_at table) receiver place)) where
+  module _ {place : ℕ} {found : (Option Place)} (l : i < size) (p : place ≡ sender_place sender item i) (f : found ≡ placeLinked (nearest (cap_at table) receiver place)) where
     in_range : i < 2 ^ item.order
     in_range = rw s.is_size at l
 
@@ -217,14 +212,14 @@ module _ {table : List ℕ} {sender receiver : ℕ} {item window : Range} {order
     is_ancestor = rw p at f
 
     -- no ancestor
-    pub search_none : found ≡ Nowhere → NullItem TranslationBroke ≡ answer
+    pub search_none : found ≡ None → Err TranslationBroke ≡ answer
     search_none none =
         let small = nearest_small (cap_at table) receiver (sender_place sender item i) s.receiver_small in
         let no_ancestor = linked_out (ancestor_at (cap_at table) sender receiver item i) (sym is_ancestor ∙ none) small in
         broken_unless (λ y. omega (arith, stands (cap_at table) sender receiver item window y i in_range, no_ancestor))
 
     -- one, with its selector and the base that the search goes on with
-    module _ {above : Place} {selected next : ℕ} (leads : found ≡ At above) (e : selected ≡ selector_of above.0) (b : next ≡ (if eqb i 0 then selected else base)) where
+    module _ {above : Place} {selected next : ℕ} (leads : found ≡ Some above) (e : selected ≡ selector_of above.0) (b : next ≡ (if eqb i 0 then selected else base)) where
       is_above : ancestor_at (cap_at table) sender receiver item i ≡ suc above.0
       is_above = omega (arith, (linked_inside (ancestor_at (cap_at table) sender receiver item i) above (sym is_ancestor ∙ leads)).0)
 
@@ -260,7 +255,7 @@ module _ {table : List ℕ} {sender receiver : ℕ} {item window : Range} {order
         lies_as_shown = is_lies ∙ rw (is_number, is_start, next_base, s.is_order)
 
         -- it lies elsewhere
-        pub search_elsewhere : not lies ≡ true → NullItem TranslationBroke ≡ answer
+        pub search_elsewhere : not lies ≡ true → Err TranslationBroke ≡ answer
         unfolding lies_there
         search_elsewhere o =
             broken_unless
@@ -308,7 +303,7 @@ module _ {table : List ℕ} {sender receiver : ℕ} {item window : Range} {order
 
   -- every offset has been done
   pub search_shows : {space : ℕ} {range : Range} → size ≤ i → space ≡ item.space →
-      range ≡ record { space = space; base = base; order = order; mask = mask } → Shows range ≡ answer
+      range ≡ record { space = space; base = base; order = order; mask = mask } → Ok range ≡ answer
   unfolding translate_item
   search_shows {space} {range} l is_space is_range =
       let done : i ≡ 2 ^ item.order = omega (arith, s.is_size, s.inside_range) in

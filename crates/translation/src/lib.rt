@@ -1,9 +1,8 @@
 // Translating a typed item: the range of the receiver that the sender's places descend from.
 #![tactic(auto)]
 
-ghost use Rattle.std.specs.Prelude.{◌+◌, ◌^◌, ◌<◌, ◌≡◌, eqb, if◌then◌else◌};
+ghost use Rattle.std.specs.Prelude.{Ok, ◌+◌, ◌^◌, ◌<◌, ◌≡◌, eqb, if◌then◌else◌};
 ghost use Rattle.words.specs.Sizes.{domains, places};
-ghost use Rattle.descriptor.specs.declared.Match.TheVariants.{Both};
 ghost use Rattle.layout.specs.Numbers.{linked};
 ghost use Rattle.descriptor.specs.Descriptors.{Proper};
 ghost use Rattle.interface.specs.Places.{cap_at, places_in};
@@ -14,7 +13,8 @@ ghost use Rattle.windows.specs.Matching.{Matched};
 ghost use Rattle.translation.specs.Translating.{lies_there};
 
 use descriptor::{Range, Reason, Received};
-use layout::{FoundPlace, Place, Selector};
+use layout::{Place, Selector};
+use marks::PlaceRange;
 use words::{permissions, ranges, sizes};
 
 // The sender's place at an offset of its range.
@@ -26,21 +26,22 @@ fn place_at(sender: u32, item: Range, offset: u32) -> Place
 }
 
 // The nearest strict ancestor of a place in a domain, if there is one.
-fn nearest_in(table: &[u32], domain: u32, place: Place) -> FoundPlace
+fn nearest_in(table: &[u32], domain: u32, place: Place) -> Option<Place>
     requires { Sized table.now × Linked (cap_at table.now) × (domain < domains) × (place.0 < places) }
     ensures { result ≡ linked (nearest (cap_at table.now) domain place.0) }
 {
-    Place::linked(descent::ancestor(table, place, Place::first_of(domain), sizes::STRIDE))
+    let places = PlaceRange {
+        first: Place::first_of(domain),
+        size: sizes::STRIDE,
+    };
+    descent::ancestor(table, place, places)
 }
 
 // R, where all the ancestors' range begins: the selector found at offset 0.
 fn base_of(offset: u32, selector: Selector, base: Selector) -> Selector
     ensures { result.0 ≡ (if eqb offset 0 then selector.0 else base.0) }
 {
-    if offset == 0 {
-        return selector;
-    }
-    base
+    if offset == 0 { selector } else { base }
 }
 
 // Whether a selector lies at R + offset, R is aligned, and the selector lies inside the window.
@@ -57,31 +58,30 @@ fn lies_there(selector: u32, base: u32, order: u32, offset: u32, window: Range) 
 }
 
 // What the receiver is shown of an item that it is to have already: the range of the nearest ancestors. The first offset that has none, or whose one lies elsewhere, ends the search.
+// It is left by a label, the form that is asked for here (docs/DECISIONS.md).
 pub fn translate(table: &[u32], sender: u32, receiver: u32, item: Range, window: Range) -> Received
     requires { Sized table.now × Linked (cap_at table.now) × (sender < domains) × (receiver < domains) × Matched item window }
-    ensures { result ≡ (translate_item (places_in table.now) sender receiver (Both item window)).received }
+    ensures { result ≡ (translate_item (places_in table.now) sender receiver (Ok (item, window))).received }
 {
     let order = item.order();
     let size = ranges::size(order);
     let mut base = item.at(0);
     let mut mask = item.mask();
-    let mut i = 0u32;
-    'search: while i < size {
-        let place = place_at(sender, item, i);
-        let FoundPlace::At(above) = nearest_in(table, receiver, place) else {
-            break 'search;
-        };
-        let selector = above.selector();
-        base = base_of(i, selector, base);
-        if !lies_there(selector.number(), base.number(), order, i, window) {
-            break 'search;
+    let shown = 'search: {
+        for i in 0..size {
+            let place = place_at(sender, item, i);
+            let Some(above) = nearest_in(table, receiver, place) else {
+                break 'search None;
+            };
+            let selector = above.selector();
+            base = base_of(i, selector, base);
+            if !lies_there(selector.number(), base.number(), order, i, window) {
+                break 'search None;
+            }
+            let cap = places::load(table, place);
+            mask = permissions::keep(mask, cap.permissions);
         }
-        let cap = places::load(table, place);
-        mask = permissions::keep(mask, cap.permissions);
-        i += 1;
-    }
-    if i < size {
-        return Received::NullItem(Reason::TranslationBroke);
-    }
-    Received::Shows(Range::of(item.space(), base, order, mask))
+        Some(Range::of(item.space(), base, order, mask))
+    };
+    shown.ok_or(Reason::TranslationBroke)
 }

@@ -14,10 +14,14 @@ use Rattle.interface.specs.Places.{Cap, cap_at, cap_table}
 use Rattle.interface.proofs.Basics.BoolLaws.{cases}
 use Rattle.interface.proofs.Basics.PutLaws.{put_same, put_other}
 use Rattle.interface.proofs.Tables.TableLaws.{cap_table_back}
-use Rattle.marks.specs.PlaceBits.{bit_at, NextMarked}
+use Rattle.marks.specs.PlaceBits.{bit_at, NoneMarked, NextMarked}
 use Rattle.places.specs.Table.{Sized}
 use Rattle.places.proofs.CapTableLaws.{length_cap_table, cap_table_same, cap_at_table_below}
 use Rattle.tree.specs.Changing.{changed_where}
+
+-- a table of capabilities has the place table's length
+pub is_sized : (caps : ℕ → Cap) {table : List ℕ} → table ≡ cap_table caps → Sized table
+is_sized caps e = ap length e ∙ length_cap_table caps
 
 -- the marked places of a table, changed in turn
 module _ (table marks : List ℕ) (change : Cap → Cap) where
@@ -60,33 +64,37 @@ module _ (table marks : List ℕ) (change : Cap → Cap) where
       left_from from p past ∙ sym (left_before next p before ∙ left_unmarked p (found.unmarked p past before)))
       (λ (g : ltb p next ≡ false). left_from from p past ∙ sym (left_from next p (ltb-false p next g)))))
 
-  pub left_none : {next : ℕ} → Sized table → NextMarked marks 0 next → table ≡ cap_table (left_below next)
-  left_none sized found =
-      sym (cap_table_back table sized) ∙ cap_table_same (cap_at table) (left_below 0) (λ p l. sym (left_from 0 p (omega arith))) ∙ same_until found
+  pub left_none : Sized table → table ≡ cap_table (left_below 0)
+  left_none sized = sym (cap_table_back table sized) ∙ cap_table_same (cap_at table) (left_below 0) (λ p l. sym (left_from 0 p (omega arith)))
 
-  pub left_sized : {now : List ℕ} (number : ℕ) → now ≡ cap_table (left_below number) → Sized now
-  left_sized number so_far = ap length so_far ∙ length_cap_table (left_below number)
-
-  pub left_more : {now after : List ℕ} {number at next : ℕ} → now ≡ cap_table (left_below number) → number < places → bit_at marks number ≡ true → at ≡ number →
-      after ≡ cap_table (put (cap_at now) at (change (cap_at now at))) → NextMarked marks (number + 1) next → after ≡ cap_table (left_below next)
-  left_more {now} {after} {number} {at} {next} so_far l here is_at e found =
-      let cap = change (cap_at now number) in
-      let shows : (p : ℕ) → p < places → cap_at now p ≡ left_below number p = λ p small. rw so_far (cap_at_table_below (left_below number) p small) in
-      let done : cap ≡ left number = ap (change) (shows number l ∙ left_from number number (omega arith)) ∙ sym (left_marked number here) in
-      let step : cap_table (put (cap_at now) number cap) ≡ cap_table (left_below (number + 1)) =
-      cap_table_same (put (cap_at now) number cap) (left_below (number + 1))
+  pub left_more : {now after : List ℕ} {from place : ℕ} → now ≡ cap_table (left_below from) → NextMarked marks from place →
+      after ≡ cap_table (put (cap_at now) place (change (cap_at now place))) → after ≡ cap_table (left_below (place + 1))
+  left_more {now} {after} {from} {place} so_far found e =
+      let there = so_far ∙ same_until found in
+      let cap = change (cap_at now place) in
+      let shows : (p : ℕ) → p < places → cap_at now p ≡ left_below place p = λ p small. rw there (cap_at_table_below (left_below place) p small) in
+      let done : cap ≡ left place = ap (change) (shows place found.ends ∙ left_from place place (omega arith)) ∙ sym (left_marked place found.marked) in
+      e ∙
+      cap_table_same (put (cap_at now) place cap) (left_below (place + 1))
       (λ p small.
-      cases (eqb p number)
-      (λ (t : eqb p number ≡ true).
-      let is : p ≡ number = eqb-true p number t in
-      rw is (put_same (cap_at now) number cap ∙ done ∙ sym (left_before (number + 1) number (omega arith))))
-      (λ (f : eqb p number ≡ false).
-      let other = eqb-false p number f in
-      put_other (cap_at now) number cap p other ∙ shows p small ∙
-      cases (ltb p number)
-      (λ (t : ltb p number ≡ true). let before = ltb-true p number t in left_before number p before ∙ sym (left_before (number + 1) p (omega arith)))
-      (λ (g : ltb p number ≡ false). let past = ltb-false p number g in left_from number p past ∙ sym (left_from (number + 1) p (omega arith))))) in
-      rw is_at at e ∙ step ∙ same_until found
+      cases (eqb p place)
+      (λ (t : eqb p place ≡ true).
+      let is : p ≡ place = eqb-true p place t in
+      rw is (put_same (cap_at now) place cap ∙ done ∙ sym (left_before (place + 1) place (omega arith))))
+      (λ (f : eqb p place ≡ false).
+      let other = eqb-false p place f in
+      put_other (cap_at now) place cap p other ∙ shows p small ∙
+      cases (ltb p place)
+      (λ (t : ltb p place ≡ true). let before = ltb-true p place t in left_before place p before ∙ sym (left_before (place + 1) p (omega arith)))
+      (λ (g : ltb p place ≡ false). let past = ltb-false p place g in left_from place p past ∙ sym (left_from (place + 1) p (omega arith)))))
 
-  pub left_all : {now : List ℕ} (number : ℕ) → number ≡ places → now ≡ cap_table (left_below number) → now ≡ cap_table left
-  left_all number all so_far = so_far ∙ cap_table_same (left_below number) left (λ p l. left_before number p (omega arith))
+  -- where none is left all are changed
+  pub left_all : {now : List ℕ} {from : ℕ} → now ≡ cap_table (left_below from) → NoneMarked marks from → now ≡ cap_table left
+  left_all {now} {from} so_far none =
+      so_far ∙
+      cap_table_same (left_below from) left
+      (λ p l.
+      cases (ltb p from) (λ (t : ltb p from ≡ true). left_before from p (ltb-true p from t))
+      (λ (f : ltb p from ≡ false).
+      let past = ltb-false p from f in
+      left_from from p past ∙ sym (left_unmarked p (none.unmarked p past l))))

@@ -23,35 +23,25 @@ pub struct Progress {
     pub waiting: usize,
     // Whether no more bytes of the journal are there to be read.
     pub is_last: bool,
-    // Whether nothing more of the journal counts.
+    // Whether nothing more of the journal counts: a flag beside `next`, since a count that could pass 64 bits ends it too.
     pub is_over: bool,
 }
 
 // Moves a part of a buffer to its front. Answers how many bytes that is.
 pub fn move_to_front(buffer: &mut [u8], from: usize, to: usize) -> usize
     requires { (from ≤ to) × (to ≤ length buffer.old) }
-    ensures value { result ≡ to - from }
-    ensures buffer_after { buffer.new ≡ fronted buffer.old from (to - from) }
+    ensures size { result ≡ to - from }
+    ensures moved { buffer.new ≡ fronted buffer.old from (to - from) }
 {
-    let size = to - from;
-    let mut i: usize = 0;
-    while i < size {
-        buffer[i] = buffer[from + i];
-        i += 1;
-    }
-    size
+    buffer.copy_within(from..to, 0);
+    to - from
 }
 
 // Whether what begins at a position is a whole record.
 pub fn is_whole(next: Found) -> bool
     ensures { result ≡ is_whole next }
 {
-    match next {
-        Found::Whole(_, _) => true,
-        Found::Nothing => false,
-        Found::Unknown(_) => false,
-        Found::Short => false,
-    }
+    matches!(next, Found::Whole(_, _))
 }
 
 // Whether nothing after what begins at a position counts: a record of no kind ends the journal, and a short one or none where there are no more bytes.
@@ -61,8 +51,7 @@ fn is_end(next: Found, last: bool) -> bool
     match next {
         Found::Unknown(_) => true,
         Found::Whole(_, _) => false,
-        Found::Nothing => last,
-        Found::Short => last,
+        Found::Nothing | Found::Short => last,
     }
 }
 
@@ -76,12 +65,12 @@ pub fn play(
     objects: &mut [u32],
     out: &mut [u8],
 ) -> Progress
-    requires objects_value { sound (tables places.old objects.old) ≡ true }
+    requires sound_before { sound (tables places.old objects.old) ≡ true }
     requires waits { Waits out.old waiting }
     ensures inside { Inside result input.now out.new }
     ensures turn { Turn input.now is_last (tables places.old objects.old) done out.old waiting
         (tables places.new objects.new) out.new result }
-    ensures objects_after { sound (tables places.new objects.new) ≡ true }
+    ensures sound_after { sound (tables places.new objects.new) ≡ true }
 {
     if u64::MAX - done < input.len() as u64 {
         return Progress {

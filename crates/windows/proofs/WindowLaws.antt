@@ -1,4 +1,5 @@
 -- Laws of an item and its window: what is matched is proper, and so is the part of the window around the hotspot.
+use Rattle.std.specs.Prelude.{Ok}
 use Prim.Native.Nat.{ℕ, ◌+◌, ◌%◌, ◌^◌, ◌≤◌, ◌<◌, min}
 use mathlib.Core.Path.{◌≡◌, sym, ◌∙◌}
 use native.Mathlib.Nat.{add-zero}
@@ -9,9 +10,7 @@ use Rattle.words.proofs.PlaceLaws.{is_place}
 use Rattle.words.proofs.RangeLaws.{keeps_aligned, ends_inside}
 use Rattle.descriptor.specs.declared.Range.{Range}
 use Rattle.descriptor.specs.declared.Reading.{Reading}
-use Rattle.descriptor.specs.declared.Match.{Match}
-use Rattle.descriptor.specs.declared.Match.TheVariants.{Both}
-use Rattle.descriptor.specs.Descriptors.{Proper, ReadProper}
+use Rattle.descriptor.specs.Descriptors.{Match, Proper, ReadProper}
 use Rattle.descriptor.proofs.DescriptorLaws.{matched_good, good_proper}
 use Rattle.interface.specs.RangeDescriptors.{reading, matched}
 use Rattle.interface.specs.Message.{smaller_order}
@@ -19,7 +18,7 @@ use Rattle.windows.specs.Matching.{Matched, destination_of}
 
 -- what is matched are proper ranges of one space
 pub is_matched : (descriptor : ℕ) (read : Reading) {match : Match} (item window : Range) → ReadProper read → match ≡ matched (reading descriptor) read →
-    match ≡ Both item window → Matched item window
+    match ≡ Ok (item, window) → Matched item window
 is_matched descriptor read item window proper m e =
     let good = matched_good (reading descriptor) read item window (sym m ∙ e) in
     record { item_proper = good_proper descriptor item good.0; window_proper = proper window good.1; same_space = good.2 }

@@ -9,14 +9,12 @@ ghost use Rattle.windows.specs.Matching.{Matched, destination_of};
 use descriptor::{Descriptor, Match, Range, Reading};
 use words::ranges;
 
-// The smaller of two orders.
-pub fn smaller(a: u32, b: u32) -> u32
-    ensures { result ≡ min a b }
-{
-    if a < b {
-        return a;
-    }
-    b
+// An item's range with its window: two proper ranges of one space.
+#[derive(Clone, Copy)]
+pub struct Pair {
+    pub item: Range,
+    pub window: Range,
+    ghost matched: { Matched item window },
 }
 
 // Where the part of an order that a delegation uses begins in a side of it: around the hotspot.
@@ -28,12 +26,13 @@ pub fn offset(side: u32, order: u32, hotspot: u32) -> u32
 }
 
 // The range that a delegation fills.
-pub fn destination(hotspot: u32, item: Range, window: Range) -> Range
-    requires { Matched item window }
-    ensures { result ≡ destination_of hotspot item window }
+pub fn destination(hotspot: u32, pair: Pair) -> Range
+    ensures { result ≡ destination_of hotspot pair.item pair.window }
 {
+    let item = pair.item;
+    let window = pair.window;
     let window_order = window.order();
-    let order = smaller(item.order(), window_order);
+    let order = item.order().min(window_order);
     let base = window.at(offset(window_order, order, hotspot));
     Range::of(item.space(), base, order, item.mask())
 }

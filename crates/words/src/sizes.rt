@@ -5,6 +5,7 @@ ghost use Rattle.words.specs.Sizes.{spaces, start, greatest_order, selectors};
 
 pub const DOMAINS: u32 = 8;
 
+// The spaces are numbers: a descriptor has its type's bits, a place its part of a domain, and any word may name one.
 pub const MEMORY: u32 = 0;
 
 pub const IO: u32 = 1;

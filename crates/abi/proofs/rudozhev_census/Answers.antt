@@ -3,4 +3,4 @@ use Rattle.abi.proofs.PackingLaws.{counts}
 use Rattle.abi.proofs.rudozhev_census.Goals as goal
 
 pub returns : goal.returns
-returns c = counts c.census.ensures.list_after c.pack.ensures
+returns c = counts c.census.ensures.is_census c.pack.ensures

@@ -3,4 +3,4 @@ use Rattle.abi.proofs.PackingLaws.{calls}
 use Rattle.abi.proofs.rudozhev_hypercall.Goals as goal
 
 pub returns : goal.returns
-returns c = calls c.hypercall.ensures.target_after c.pack.ensures
+returns c = calls c.hypercall.ensures.is_outcome c.pack.ensures

@@ -3,8 +3,8 @@ use borrow.Author.Rules.{rules}
 use Rattle.boot.proofs.BootCapLaws.{held_object, held_none}
 use Rattle.boot.proofs.held.Goals as goal
 
-pub returns-in-Numbered : goal.returns-in-Numbered
-returns-in-Numbered c = search (held_object, rules)
+pub returns-in-Some : goal.returns-in-Some
+returns-in-Some c = search (held_object, rules)
 
-pub returns-in-Beyond : goal.returns-in-Beyond
-returns-in-Beyond c = search (held_none, rules)
+pub returns-in-None : goal.returns-in-None
+returns-in-None c = search (held_none, rules)

@@ -1,5 +1,11 @@
 -- Each way out of the checks is a law's, by the tests on the way.
+use Rattle.std.specs.Prelude.{Result, Err}
+use Rattle.std.proofs.lemmas.Result.{err_from_is_err_and}
+use mathlib.Core.Path.{◌≡◌, ◌∙◌}
 use borrow.Author.Rules.{rules}
+use Rattle.reply.specs.declared.Refusal.{Refusal}
+use Rattle.reply.specs.declared.Refusal.TheVariants.{NoRoom}
+use Rattle.layout.specs.declared.ObjectNumber.{ObjectNumber}
 use Rattle.interface.specs.Places.{view}
 use Rattle.interface.specs.Creations.{free_record}
 use Rattle.creation_rule.specs.CreationRule.{Says}
@@ -42,16 +48,21 @@ pub free_record-requires : goal.free_record-requires
 free_record-requires c =
     c.requires.1
 
-pub returns-in_default : goal.returns-in_default
+pub returns-in_err-number : goal.returns-in_err-number
 unfolding free_record
-returns-in_default c = no_record (past_own (goal.at.returns-in_default c).Else-not-new-3) c.free_record.ensures c.in_default.is
+returns-in_err-number c =
+    let none = c.in_err-number.ensures.ok_part in
+    let given = err_from_is_err_and c.from_residual.result c.from_residual.ensures.1 in
+    let refused : ◌≡◌ {A = Result ObjectNumber Refusal} (Err c.in_err-number.field-0.0) (Err NoRoom) = c.in_err-number.ensures.value ∙ rw none in
+    let same : c.in_err-number.field-0.0 ≡ NoRoom = cc in
+    rw (given.1, given.2, same) (no_record (past_own (goal.at.returns-in_err-number c).Else-not-new-3) c.free_record.ensures none)
 
 pub returns-then-not-new-4 : goal.returns-then-not-new-4
 unfolding free_record
 returns-then-not-new-4 c =
-    no_domain (past_own (goal.at.returns-then-not-new-4 c).Else-not-new-3) c.free_record.ensures c.in-Numbered.is c.if-not-new-4.true
+    no_domain (past_own (goal.at.returns-then-not-new-4 c).Else-not-new-3) c.free_record.ensures c.in_ok-number.ensures.ok_part c.if-not-new-4.true
 
 pub returns : goal.returns
 unfolding free_record
 returns c =
-    has_room (past_own (goal.at.returns c).Else-not-new-3) c.free_record.ensures c.in-Numbered.is c.if-not-new-3.false c.if-not-new-4.false
+    has_room (past_own (goal.at.returns c).Else-not-new-3) c.free_record.ensures c.in_ok-number.ensures.ok_part c.if-not-new-3.false c.if-not-new-4.false

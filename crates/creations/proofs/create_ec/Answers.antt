@@ -14,4 +14,5 @@ pub create-requires : goal.create-requires
 create-requires c = search (sized_places, sized_objects, rules)
 
 pub returns : goal.returns
-returns c = λ call is_caller is_first is_second is_third is_fourth. search (ec_runs, rules)
+returns c = λ call is_caller is_first is_second is_third is_fourth.
+    let created = rw c.of.ensures at c.create.ensures in search (created, ec_runs, rules)

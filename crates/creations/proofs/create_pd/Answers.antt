@@ -15,4 +15,5 @@ pub create-requires : goal.create-requires
 create-requires c = search (sized_places, sized_objects, initial_handed, rules)
 
 pub returns : goal.returns
-returns c = λ call is_caller is_first is_second is_third. search (pd_runs, rules)
+returns c = λ call is_caller is_first is_second is_third.
+    let created = rw c.of.ensures at c.create.ensures in search (created, pd_runs, rules)

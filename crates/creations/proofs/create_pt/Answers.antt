@@ -11,4 +11,5 @@ pub create-requires : goal.create-requires
 create-requires c = search (sized_places, sized_objects, rules)
 
 pub returns : goal.returns
-returns c = λ call is_caller is_first is_second is_third is_fourth is_fifth is_sixth. search (pt_runs, rules)
+returns c = λ call is_caller is_first is_second is_third is_fourth is_fifth is_sixth.
+    let created = rw c.of.ensures at c.create.ensures in search (created, pt_runs, rules)

@@ -8,4 +8,5 @@ pub create-requires : goal.create-requires
 create-requires c = search (sized_places, sized_objects, rules)
 
 pub returns : goal.returns
-returns c = λ call is_caller is_first is_second is_third. search (sm_runs, rules)
+returns c = λ call is_caller is_first is_second is_third.
+    let created = rw c.of-new.ensures at c.create.ensures in search (created, sm_runs, rules)

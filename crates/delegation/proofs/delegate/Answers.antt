@@ -7,17 +7,18 @@ use Rattle.delegation.proofs.DelegateLaws.{going_begins, going_filled, going_unf
 use Rattle.delegation.proofs.delegate.Goals as goal
 
 pub offset-item_offset-requires : goal.offset-item_offset-requires
-offset-item_offset-requires c = omega (arith, proper_order c.requires.3.item_proper)
+offset-item_offset-requires c = omega (arith, proper_order c.args.pair.matched.item_proper)
 
 pub offset-window_offset-requires : goal.offset-window_offset-requires
-offset-window_offset-requires c = omega (arith, proper_order c.requires.3.window_proper)
+offset-window_offset-requires c = omega (arith, proper_order c.args.pair.matched.window_proper)
 
 pub size-size-requires : goal.size-size-requires
-size-size-requires c = omega (arith, proper_order c.requires.3.item_proper)
+size-size-requires c = omega (arith, proper_order c.args.pair.matched.item_proper)
 
 pub loop-i-init : goal.loop-i-init
-loop-i-init c = going_begins c.args.table.now c.args.from c.args.to c.args.hotspot c.args.item c.args.window c.requires
-    c.order-item_order.ensures c.order-window_order.ensures c.smaller-order.ensures c.offset-item_offset.ensures
+loop-i-init c = going_begins c.args.table.now c.args.from c.args.to c.args.hotspot c.args.pair.item c.args.pair.window
+    (c.requires.0, c.requires.1, c.requires.2, c.args.pair.matched)
+    c.order-item_order.ensures c.order-window_order.ensures c.min-order.ensures c.offset-item_offset.ensures
     c.offset-window_offset.ensures c.size-size.ensures
 
 pub overflow_add-item_offset : goal.overflow_add-item_offset
@@ -31,19 +32,9 @@ give_at-requires c = let g = c.loop-i.invariant in (
   g.running.sized,
   g.from_small,
   g.to_small,
-  g.matched,
   omega arith,
   omega arith,
 )
-
-pub overflow_add-count : goal.overflow_add-count
-overflow_add-count c = omega arith
-
-pub overflow_add-i : goal.overflow_add-i
-overflow_add-i c = omega arith
-
-pub loop-i-smaller : goal.loop-i-smaller
-loop-i-smaller c = omega arith
 
 pub loop-i-preserved : goal.loop-i-preserved
 loop-i-preserved c = let g = c.loop-i.invariant in

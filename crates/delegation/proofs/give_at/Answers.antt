@@ -13,7 +13,7 @@ at_small : (c : After-at) → c.at.result.0 < selectors c.space-space.result
 at_small c = rw c.space-space.ensures c.at.ensures.1
 
 into_small : (c : After-at-2) → c.at-2.result.0 < selectors c.space-space.result
-into_small c = rw (c.space-space.ensures, c.requires.3.same_space) c.at-2.ensures.1
+into_small c = rw (c.space-space.ensures, c.args.pair.matched.same_space) c.at-2.ensures.1
 
 pub of-source-requires : goal.of-source-requires
 of-source-requires c = search (at_small (goal.at.of-source-requires c).After-at, rules)
@@ -29,6 +29,6 @@ give-requires c = let small : c.space-space.result < spaces = omega arith in (
 )
 
 pub returns : goal.returns
-returns c = given_places c.args.from c.args.to c.args.item c.args.window c.args.at c.args.into c.give.ensures
+returns c = given_places c.args.from c.args.to c.args.pair.item c.args.pair.window c.args.at c.args.into c.give.ensures
     c.mask.ensures c.of-destination.ensures c.at-2.ensures c.of-source.ensures c.at.ensures c.space-space.ensures
-    c.requires.1 c.requires.2 c.requires.3
+    c.requires.1 c.requires.2 c.args.pair.matched

@@ -1,20 +1,21 @@
--- The answer so far is that of the places before the loop's.
-use native.Mathlib.Omega.{arith}
-use Rattle.interface.proofs.Basics.LoopLaws.{so_far_none, so_far_more, so_far_done}
+-- The answer is that of each place of the word.
+use mathlib.Core.Path.{refl, ◌∙◌}
+use lib.Dec.{eqb}
+use Prim.Native.Nat.{◌+◌}
+use mathlib.Core.Bool.{◌&&◌}
+use Rattle.std.proofs.Common.{rules}
+use Rattle.std.proofs.lemmas.Iterator.{YieldsList-from_range}
+use Rattle.std.proofs.lemmas.Iterator.Consumers.{fold_from_yields_List}
+use Rattle.interface.specs.Places.{cap_at}
+use Rattle.marks.specs.PlaceBits.{word_bits}
 use Rattle.descent.specs.Walks.{parentless_from}
+use Rattle.descent.proofs.FoldLaws.{folded}
 use Rattle.descent.proofs.are_parentless.Goals as goal
-
-pub loop-offset-init : goal.loop-offset-init
-unfolding parentless_from
-loop-offset-init c = (omega arith, so_far_none _)
-
-pub after-requires : goal.after-requires
-after-requires c = omega arith
-
-pub loop-offset-preserved : goal.loop-offset-preserved
-unfolding parentless_from
-loop-offset-preserved c = (omega arith, so_far_more _ _ _ _ c.loop-offset.invariant.1 (rw (c.load-cap.ensures, c.after.ensures)))
 
 pub returns : goal.returns
 unfolding parentless_from
-returns c = so_far_done _ _ _ _ (omega arith) (omega arith) c.loop-offset.invariant.1
+returns c =
+    let table = c.args.table.now in
+    let from = c.args.from.0 in
+    fold_from_yields_List _ (λ holds i. holds && eqb (cap_at table (from + i)).parent 0) _ _ c.fold.ensures.ran (YieldsList-from_range 0 word_bits word_bits refl refl) (λ a x b q k. search rules)
+    ∙ folded (λ i. eqb (cap_at table (from + i)).parent 0) word_bits

@@ -10,5 +10,5 @@ pub returns-then-bytes-start : goal.returns-then-bytes-start
 returns-then-bytes-start c = search (layout_late, rules)
 
 pub returns : goal.returns
-returns c = layout_tested c.args.bytes.now _ _ _ _ c.get16-start.ensures c.get16.ensures c.get16-2.ensures
-    c.get16-3.ensures (search rules) (search rules)
+returns c = layout_tested c.args.bytes.now _ _ _ _ c.get-start.ensures c.get.ensures c.get-2.ensures
+    c.get-3.ensures (search rules) (search rules)

@@ -5,23 +5,23 @@ use Rattle.hip_reader.proofs.ReadLaws.{refuses}
 use Rattle.hip_text.proofs.LineLaws.{page, page_counted, refused_counted}
 use Rattle.hip_text.proofs.line_count.Goals as goal
 
-pub overflow_add-result-in-Accepted-2 : goal.overflow_add-result-in-Accepted-2
-overflow_add-result-in-Accepted-2 c = omega (arith, (page c.args.bytes.now _ (sym c.in-Accepted.is ∙ c.requires)).whole)
+pub overflow_add-result-in-Ok-2 : goal.overflow_add-result-in-Ok-2
+overflow_add-result-in-Ok-2 c = omega (arith, (page c.args.bytes.now _ (sym c.in-Ok.is ∙ c.requires)).whole)
 
-pub overflow_add-result-in-Accepted-3 : goal.overflow_add-result-in-Accepted-3
-overflow_add-result-in-Accepted-3 c = omega (arith, (page c.args.bytes.now _ (sym c.in-Accepted.is ∙ c.requires)).whole)
+pub overflow_add-result-in-Ok-3 : goal.overflow_add-result-in-Ok-3
+overflow_add-result-in-Ok-3 c = omega (arith, (page c.args.bytes.now _ (sym c.in-Ok.is ∙ c.requires)).whole)
 
-pub overflow_add-result-in-Accepted-4 : goal.overflow_add-result-in-Accepted-4
-overflow_add-result-in-Accepted-4 c = omega (arith, (page c.args.bytes.now _ (sym c.in-Accepted.is ∙ c.requires)).whole)
+pub overflow_add-result-in-Ok-4 : goal.overflow_add-result-in-Ok-4
+overflow_add-result-in-Ok-4 c = omega (arith, (page c.args.bytes.now _ (sym c.in-Ok.is ∙ c.requires)).whole)
 
-pub returns-in-Refused-clause-value : goal.returns-in-Refused-clause-value
-returns-in-Refused-clause-value c = sym (refused_counted c.args.bytes.now _ (refuses c.args.bytes.now _ _ c.requires c.in-Refused.is))
+pub returns-in-Err-clause-value : goal.returns-in-Err-clause-value
+returns-in-Err-clause-value c = sym (refused_counted c.args.bytes.now _ (refuses c.args.bytes.now _ _ c.requires c.in-Err.is))
 
-pub returns-in-Refused-clause-value_2 : goal.returns-in-Refused-clause-value_2
-returns-in-Refused-clause-value_2 c = rw c.in-Refused.is
+pub returns-in-Err-clause-value_2 : goal.returns-in-Err-clause-value_2
+returns-in-Err-clause-value_2 c = rw c.in-Err.is
 
-pub returns-in-Accepted-clause-value : goal.returns-in-Accepted-clause-value
-returns-in-Accepted-clause-value c = omega (arith, page_counted c.args.bytes.now _ (page c.args.bytes.now _ (sym c.in-Accepted.is ∙ c.requires)))
+pub returns-in-Ok-clause-value : goal.returns-in-Ok-clause-value
+returns-in-Ok-clause-value c = omega (arith, page_counted c.args.bytes.now _ (page c.args.bytes.now _ (sym c.in-Ok.is ∙ c.requires)))
 
-pub returns-in-Accepted-clause-value_2 : goal.returns-in-Accepted-clause-value_2
-returns-in-Accepted-clause-value_2 c = rw c.in-Accepted.is (omega arith)
+pub returns-in-Ok-clause-value_2 : goal.returns-in-Ok-clause-value_2
+returns-in-Ok-clause-value_2 c = rw c.in-Ok.is (omega arith)

@@ -8,12 +8,12 @@ pub overflow_cast-bytes : goal.overflow_cast-bytes
 overflow_cast-bytes c = let p = page c.args.bytes.now c.args.summary c.requires.summary_value in
     omega (arith, page_short c.args.bytes.now c.args.summary p (λ i. search rules))
 
-pub get16-requires : goal.get16-requires
-get16-requires c = omega (arith, (page c.args.bytes.now c.args.summary c.requires.summary_value).whole)
+pub get-requires : goal.get-requires
+get-requires c = omega (arith, (page c.args.bytes.now c.args.summary c.requires.summary_value).whole)
 
 pub returns-then-index-eq0 : goal.returns-then-index-eq0
 returns-then-index-eq0 c = let p = page c.args.bytes.now c.args.summary c.requires.summary_value in
-    title_line_lem c.args.bytes.now c.args.summary p c.args.index c.get16.result c.if-index-eq0.true c.get16.ensures c.put_title.ensures
+    title_line_lem c.args.bytes.now c.args.summary p c.args.index c.get.result c.if-index-eq0.true c.get.ensures c.put_title.ensures
 
 pub returns-then-index-le-FIELDS : goal.returns-then-index-le-FIELDS
 returns-then-index-le-FIELDS c = let p = page c.args.bytes.now c.args.summary c.requires.summary_value in

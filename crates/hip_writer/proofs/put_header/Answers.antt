@@ -11,5 +11,5 @@ use Rattle.hip_writer.proofs.put_header.Goals as goal
 
 pub returns : goal.returns
 returns c = header_written c.args.buffer.now _ _ _ signature (0 ∷ c.args.size ∷ header_size ∷ cpu_size ∷ c.args.start ∷ memory_size ∷ []) (fields c.args.header) refl refl
-    c.put_bytes.ensures c.put16s.ensures
-    (c.put32s.ensures ∙ ap (λ (l : List ℕ). written c.put16s.new.buffer 16 (bytes_of_each (bytes_of 4) l)) c.fields-long_fields.ensures)
+    c.put_bytes.ensures c.put_all.ensures
+    (c.put_all-2.ensures ∙ ap (λ (l : List ℕ). written c.put_all.new.buffer 16 (bytes_of_each (bytes_of 4) l)) c.fields-long_fields.ensures)

@@ -1,57 +1,31 @@
--- The loop's invariant: the answer so far is that of the words passed. The measure is how many words are left.
-use Rattle.std.proofs.Common.{◌≡◌, ◌+◌, ◌-◌, ◌*◌, ◌≤◌, arith, rules}
+-- Each word is held against that of the place before it.
+use Rattle.std.proofs.Common.{◌≡◌, ℕ, ◌+◌, ◌-◌, ◌*◌, ◌%◌, ◌^◌, ◌∙◌, Bool, arith, rules}
+use borrow.Author.Tests.{tests}
+use lib.ListN.{take, drop}
+use Rattle.std.proofs.lemmas.Iterator.{YieldsList-from_slice, YieldsList-from_zip}
 use Rattle.words.specs.Sizes.{place_words}
-use Rattle.interface.proofs.Basics.LoopLaws.{so_far_none, so_far_more, so_far_done}
-use Rattle.hypervisor_rules.proofs.StretchLaws.{step_so}
+use Rattle.objects.proofs.WalkLaws.{fold_all, all_pairs}
+use Rattle.hypervisor_rules.specs.HypervisorKeeping.{steps, is_step}
+use Rattle.hypervisor_rules.proofs.StretchLaws.{step_any, words_step}
 use Rattle.hypervisor_rules.proofs.are_steps.Goals as goal
 
-pub bounds-table-start-in-loop-i : goal.bounds-table-start-in-loop-i
-bounds-table-start-in-loop-i c = omega arith
-
-pub overflow_mul-start : goal.overflow_mul-start
-overflow_mul-start c = omega arith
-
-pub overflow_cast-words : goal.overflow_cast-words
-overflow_cast-words c = omega arith
-
-pub overflow_mul-words : goal.overflow_mul-words
-overflow_mul-words c = omega arith
-
-pub loop-i-init : goal.loop-i-init
-loop-i-init c = search (so_far_none, rules)
-
-pub overflow_add-start : goal.overflow_add-start
-overflow_add-start c = omega arith
-
-pub overflow_add-start-in-loop-i : goal.overflow_add-start-in-loop-i
-overflow_add-start-in-loop-i c = omega arith
-
-pub offset_bounds-table-start : goal.offset_bounds-table-start
-offset_bounds-table-start c = omega arith
-
-pub bounds-table-start : goal.bounds-table-start
-bounds-table-start c = omega arith
-
-pub overflow_add-start-in-loop-i-2 : goal.overflow_add-start-in-loop-i-2
-overflow_add-start-in-loop-i-2 c = omega arith
-
-pub offset_bounds-table-start-in-loop-i : goal.offset_bounds-table-start-in-loop-i
-offset_bounds-table-start-in-loop-i c = omega arith
-
-pub overflow_add-i : goal.overflow_add-i
-overflow_add-i c = omega arith
-
-pub loop-i-smaller : goal.loop-i-smaller
-loop-i-smaller c = omega arith
-
-pub loop-i-preserved : goal.loop-i-preserved
-loop-i-preserved c =
-    let loop = c.loop-i in
-    let first = c.args.first in (
-      omega arith,
-      so_far_more _ _ _ _ loop.invariant.1
-          (step_so _ _ _ (omega (arith, c.type_inv.table (place_words * first + loop.i))) (omega arith) c.wrapping_sub_u32.ensures.value),
-    )
+-- whether the second of two words is a step from the first
+abbrev steps_up : ℕ × ℕ → Bool
+steps_up pair = is_step (pair.0 % 2 ^ 32) pair.1
 
 pub returns : goal.returns
-returns c = search (so_far_done, rules)
+returns c =
+    let words = c.args.table.now in
+    let start = place_words * c.args.first in
+    let next = start + place_words in
+    let count = place_words * steps in
+    let these = take count (drop start words) in
+    let those = take count (drop next words) in
+    let width : start + count - start ≡ count = omega arith in
+    let next_width : next + count - next ≡ count = omega arith in
+    let this_cut : take (start + count - start) (drop start words) ≡ these = rw width in
+    let that_cut : take (next + count - next) (drop next words) ≡ those = rw next_width in
+    fold_all steps_up _ _ _ _ (YieldsList-from_zip (YieldsList-from_slice these (cc)) (YieldsList-from_slice those (cc))) c.fold.ensures.ran
+    (λ a x b q k. search (step_any, rules, tests)) ∙
+    all_pairs steps_up words start next count (omega arith) (omega arith) ∙
+    words_step words start count (λ i. omega (arith, c.type_inv.table i))

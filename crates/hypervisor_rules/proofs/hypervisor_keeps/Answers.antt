@@ -1,44 +1,78 @@
 -- Each stretch is as the definition of boot's places has it, and so are the idle SCs; the rest is null.
-use mathlib.Core.Bool.{not}
+use mathlib.Core.Bool.{Bool, false, not}
 use mathlib.Core.Path.{ap}
-use Rattle.std.proofs.Common.{◌+◌, ◌∙◌, arith}
+use Rattle.std.proofs.Common.{◌≡◌, ℕ, ◌+◌, ◌≤◌, ◌∙◌, refl, sym, arith}
 use Rattle.words.specs.Sizes.{io, object, start, stride}
+use Rattle.interface.specs.Basics.{all_below}
+use Rattle.interface.specs.Places.{places_in}
 use Rattle.interface.specs.Boot.{cpus, root_pd}
-use Rattle.interface.proofs.Basics.LoopLaws.{all_below_none, all_below_within, answered_yes}
-use Rattle.hypervisor_rules.proofs.BootStretches.{memory_stretch, io_stretch, interrupt_stretch}
-use Rattle.hypervisor_rules.proofs.BootStretches.{rest_decides}
+use Rattle.interface.specs.Damage.{fixed_place}
+use Rattle.interface.proofs.Basics.LoopLaws.{all_below_none, all_below_within}
+use Rattle.hypervisor_rules.proofs.BootStretches.{memory_stretch, io_stretch, interrupt_stretch, rest_decides}
 use Rattle.hypervisor_rules.proofs.hypervisor_keeps.Goals as goal
+use Rattle.hypervisor_rules.proofs.hypervisor_keeps.Goals.{then-stretch_keeps, else-stretch_keeps, then-stretch_keeps-2, else-stretch_keeps-2, then-idle_keep, else-idle_keep}
+
+-- an answer for the places below a number is that for those below a later one where it is no
+broken : (fixed : ℕ → Bool) (n m : ℕ) (answer value : Bool) → n ≤ m → answer ≡ all_below n fixed → answer ≡ false → value ≡ answer → value ≡ all_below m fixed
+broken fixed n m answer value l asked no_lem e = e ∙ no_lem ∙ all_below_within fixed n m answer l asked (ap not no_lem)
 
 pub stretch_keeps-requires : goal.stretch_keeps-requires
 stretch_keeps-requires c = (c.requires, memory_stretch, all_below_none _)
 
-pub returns-then-not-stretch_keeps : goal.returns-then-not-stretch_keeps
-returns-then-not-stretch_keeps c = all_below_within _ (start io) stride _ (omega arith) c.stretch_keeps.ensures (ap not c.if-not-stretch_keeps.true)
+pub stretch_keeps-requires-then-stretch_keeps : goal.stretch_keeps-requires-then-stretch_keeps
+stretch_keeps-requires-then-stretch_keeps c = (c.requires, io_stretch, sym c.stretch_keeps.ensures ∙ c.if-stretch_keeps.true)
 
-pub stretch_keeps-requires-2 : goal.stretch_keeps-requires-2
-stretch_keeps-requires-2 c = (c.requires, io_stretch, answered_yes _ _ c.stretch_keeps.ensures (ap not c.if-not-stretch_keeps.false))
+pub stretch_keeps-requires-then-idle_keep : goal.stretch_keeps-requires-then-idle_keep
+stretch_keeps-requires-then-idle_keep c =
+    let fixed : ℕ → Bool = fixed_place (places_in c.args.table.now) in
+    let two : c.if-stretch_keeps.value ≡ all_below (start object) fixed =
+    elim c.if-stretch_keeps.branch [
+      | then-stretch_keeps w ↦ w.value-is ∙ w.stretch_keeps-then-stretch_keeps.ensures
+      | else-stretch_keeps w ↦ broken fixed (start io) (start object) _ _ (omega arith) c.stretch_keeps.ensures w.if-stretch_keeps.false w.value-is
+    ] in
+    let three : c.if-stretch_keeps-2.value ≡ all_below (start object + cpus) fixed =
+    elim c.if-stretch_keeps-2.branch [
+      | then-stretch_keeps-2 w ↦ w.value-is ∙ w.idle_keep.ensures
+      | else-stretch_keeps-2 w ↦ broken fixed (start object) (start object + cpus) _ _ (omega arith) two w.if-stretch_keeps-2.false w.value-is
+    ] in
+    (c.requires, interrupt_stretch, sym three ∙ c.if-idle_keep.true)
 
-pub returns-then-not-stretch_keeps-2 : goal.returns-then-not-stretch_keeps-2
-returns-then-not-stretch_keeps-2 c = all_below_within _ (start object) stride _ (omega arith) c.stretch_keeps-2.ensures (ap not c.if-not-stretch_keeps-2.true)
+pub returns-then-stretch_keeps-3 : goal.returns-then-stretch_keeps-3
+returns-then-stretch_keeps-3 c =
+    let fixed : ℕ → Bool = fixed_place (places_in c.args.table.now) in
+    let two : c.if-stretch_keeps.value ≡ all_below (start object) fixed =
+    elim c.if-stretch_keeps.branch [
+      | then-stretch_keeps w ↦ w.value-is ∙ w.stretch_keeps-then-stretch_keeps.ensures
+      | else-stretch_keeps w ↦ broken fixed (start io) (start object) _ _ (omega arith) c.stretch_keeps.ensures w.if-stretch_keeps.false w.value-is
+    ] in
+    let three : c.if-stretch_keeps-2.value ≡ all_below (start object + cpus) fixed =
+    elim c.if-stretch_keeps-2.branch [
+      | then-stretch_keeps-2 w ↦ w.value-is ∙ w.idle_keep.ensures
+      | else-stretch_keeps-2 w ↦ broken fixed (start object) (start object + cpus) _ _ (omega arith) two w.if-stretch_keeps-2.false w.value-is
+    ] in
+    let four : c.if-idle_keep.value ≡ all_below (start object + root_pd) fixed =
+    elim c.if-idle_keep.branch [
+      | then-idle_keep w ↦ w.value-is ∙ w.stretch_keeps-then-idle_keep.ensures
+      | else-idle_keep w ↦ broken fixed (start object + cpus) (start object + root_pd) _ _ (omega arith) three w.if-idle_keep.false w.value-is
+    ] in
+    c.is_blank.ensures ∙ rest_decides _ (sym four ∙ c.if-stretch_keeps-3.true)
 
-pub idle_keep-requires : goal.idle_keep-requires
-idle_keep-requires c = (c.requires, answered_yes _ _ c.stretch_keeps-2.ensures (ap not c.if-not-stretch_keeps-2.false))
-
-pub returns-then-not-idle_keep : goal.returns-then-not-idle_keep
-returns-then-not-idle_keep c = all_below_within _ (start object + cpus) stride _ (omega arith) c.idle_keep.ensures (ap not c.if-not-idle_keep.true)
-
-pub stretch_keeps-requires-3 : goal.stretch_keeps-requires-3
-stretch_keeps-requires-3 c = (
-  c.requires,
-  interrupt_stretch,
-  answered_yes _ _ c.idle_keep.ensures (ap not c.if-not-idle_keep.false),
-)
-
-pub returns-then-not-stretch_keeps-3 : goal.returns-then-not-stretch_keeps-3
-returns-then-not-stretch_keeps-3 c = all_below_within _ (start object + root_pd) stride _ (omega arith) c.stretch_keeps-3.ensures (ap not c.if-not-stretch_keeps-3.true)
-
-pub is_blank-requires : goal.is_blank-requires
-is_blank-requires c = (c.requires, omega arith)
-
-pub returns : goal.returns
-returns c = c.is_blank.ensures ∙ rest_decides _ (answered_yes _ _ c.stretch_keeps-3.ensures (ap not c.if-not-stretch_keeps-3.false))
+pub returns-else-stretch_keeps-3 : goal.returns-else-stretch_keeps-3
+returns-else-stretch_keeps-3 c =
+    let fixed : ℕ → Bool = fixed_place (places_in c.args.table.now) in
+    let two : c.if-stretch_keeps.value ≡ all_below (start object) fixed =
+    elim c.if-stretch_keeps.branch [
+      | then-stretch_keeps w ↦ w.value-is ∙ w.stretch_keeps-then-stretch_keeps.ensures
+      | else-stretch_keeps w ↦ broken fixed (start io) (start object) _ _ (omega arith) c.stretch_keeps.ensures w.if-stretch_keeps.false w.value-is
+    ] in
+    let three : c.if-stretch_keeps-2.value ≡ all_below (start object + cpus) fixed =
+    elim c.if-stretch_keeps-2.branch [
+      | then-stretch_keeps-2 w ↦ w.value-is ∙ w.idle_keep.ensures
+      | else-stretch_keeps-2 w ↦ broken fixed (start object) (start object + cpus) _ _ (omega arith) two w.if-stretch_keeps-2.false w.value-is
+    ] in
+    let four : c.if-idle_keep.value ≡ all_below (start object + root_pd) fixed =
+    elim c.if-idle_keep.branch [
+      | then-idle_keep w ↦ w.value-is ∙ w.stretch_keeps-then-idle_keep.ensures
+      | else-idle_keep w ↦ broken fixed (start object + cpus) (start object + root_pd) _ _ (omega arith) three w.if-idle_keep.false w.value-is
+    ] in
+    broken fixed (start object + root_pd) stride _ _ (omega arith) four c.if-stretch_keeps-3.false refl

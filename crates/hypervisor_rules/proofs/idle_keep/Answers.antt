@@ -1,22 +1,17 @@
--- The loop's invariant: the answer so far is that of the places passed. The measure is how many places are left.
-use Rattle.std.proofs.Common.{◌≡◌, ◌+◌, ◌-◌, ◌≤◌, sym, arith, rules}
-use Rattle.interface.proofs.Basics.LoopLaws.{so_far_more, so_far_done}
+-- Each idle SC's place is asked.
+use Rattle.std.proofs.Common.{ℕ, ◌+◌, ◌∙◌, Bool, refl, rules}
+use borrow.Author.Tests.{tests}
+use Rattle.std.proofs.lemmas.Iterator.{YieldsList-from_range}
+use Rattle.std.proofs.lemmas.Iterator.Search.{all_from_yields_List}
+use Rattle.words.specs.Sizes.{object, start}
+use Rattle.interface.specs.Places.{places_in}
+use Rattle.interface.specs.Boot.{cpus}
+use Rattle.interface.specs.Damage.{fixed_place}
+use Rattle.objects.proofs.WalkLaws.{all_range}
 use Rattle.hypervisor_rules.proofs.idle_keep.Goals as goal
 
-pub loop-at-init : goal.loop-at-init
-loop-at-init c = (omega arith, sym c.requires.1)
-
-pub fixed_keeps-fixed-requires : goal.fixed_keeps-fixed-requires
-fixed_keeps-fixed-requires c = (search rules, omega arith)
-
-pub overflow_add-at : goal.overflow_add-at
-overflow_add-at c = omega arith
-
-pub loop-at-smaller : goal.loop-at-smaller
-loop-at-smaller c = omega arith
-
-pub loop-at-preserved : goal.loop-at-preserved
-loop-at-preserved c = (omega arith, search (so_far_more, rules))
-
 pub returns : goal.returns
-returns c = search (so_far_done, rules)
+returns c =
+    let fixed : ℕ → Bool = fixed_place (places_in c.args.table.now) in
+    all_from_yields_List fixed _ _ c.all.result c.all.ensures.ran (YieldsList-from_range (start object) (start object + cpus) cpus refl refl) (λ x b q k. search (rules, tests)) ∙
+    rw (c.requires.1) at (all_range fixed cpus (start object))

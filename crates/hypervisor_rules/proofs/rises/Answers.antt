@@ -1,39 +1,31 @@
--- The loop's invariant: each word of the places passed steps to that of the next. The measure is how many places are left.
-use mathlib.Core.Bool.{not}
-use mathlib.Core.Path.{ap}
-use Rattle.std.proofs.Common.{◌-◌, ◌≤◌, arith, rules}
-use Rattle.hypervisor_rules.proofs.StretchLaws.{steps_none, steps_more, steps_broken, steps_done}
+-- The looks one after the other, and then the last.
+use Rattle.std.proofs.Common.{ℕ, ◌+◌, ◌-◌, ◌*◌, ◌/◌, ◌∙◌, Bool, List, refl, arith, rules}
+use borrow.Author.Tests.{tests}
+use Rattle.std.proofs.lemmas.Iterator.{YieldsList-from_range}
+use Rattle.std.proofs.lemmas.Iterator.Search.{all_from_yields_List}
+use Rattle.objects.proofs.WalkLaws.{all_numbers}
+use Rattle.hypervisor_rules.specs.HypervisorKeeping.{steps, rising}
+use Rattle.hypervisor_rules.proofs.StretchLaws.{looks_broken, looks_done}
 use Rattle.hypervisor_rules.proofs.rises.Goals as goal
 
-pub loop-at-init : goal.loop-at-init
-loop-at-init c = let given = c.args in (omega arith, omega arith, steps_none given.table.now given.first)
+-- whether each word of the places of a look is a step
+abbrev look : List ℕ → ℕ → ℕ → Bool
+look table first k = rising table (first + steps * k) steps
 
-pub overflow_add-at : goal.overflow_add-at
-overflow_add-at c = omega arith
-
-pub are_steps-requires : goal.are_steps-requires
-are_steps-requires c = (search rules, omega arith)
-
-pub returns-then-not-are_steps : goal.returns-then-not-are_steps
-returns-then-not-are_steps c =
+pub returns-then-all : goal.returns-then-all
+returns-then-all c =
     let given = c.args in
-    steps_broken given.table.now given.first given.last c.loop-at.at _ (omega arith) (omega arith) c.are_steps.ensures
-    (ap not c.if-not-are_steps.true)
+    let table = given.table.now in
+    let n = (given.last - given.first - 1) / steps in
+    let looked = all_from_yields_List (look table given.first) _ _ c.all.result c.all.ensures.ran (YieldsList-from_range 0 n n refl (omega arith)) (λ x b q k. search (rules, tests)) ∙
+    all_numbers (look table given.first) n in
+    looks_done table given.first given.last n _ _ (omega arith) (omega arith) looked c.if-all.true c.are_steps.ensures
 
-pub overflow_add-at-in-loop-at : goal.overflow_add-at-in-loop-at
-overflow_add-at-in-loop-at c = omega arith
-
-pub loop-at-smaller : goal.loop-at-smaller
-loop-at-smaller c = omega arith
-
-pub loop-at-preserved : goal.loop-at-preserved
-loop-at-preserved c = (omega arith, omega arith, search (steps_more, rules))
-
-pub overflow_sub-last : goal.overflow_sub-last
-overflow_sub-last c = omega arith
-
-pub are_steps-requires-2 : goal.are_steps-requires-2
-are_steps-requires-2 c = (search rules, omega arith)
-
-pub returns : goal.returns
-returns c = search (steps_done, rules)
+pub returns-else-all : goal.returns-else-all
+returns-else-all c =
+    let given = c.args in
+    let table = given.table.now in
+    let n = (given.last - given.first - 1) / steps in
+    let looked = all_from_yields_List (look table given.first) _ _ c.all.result c.all.ensures.ran (YieldsList-from_range 0 n n refl (omega arith)) (λ x b q k. search (rules, tests)) ∙
+    all_numbers (look table given.first) n in
+    looks_broken table given.first given.last n _ (omega arith) looked c.if-all.false

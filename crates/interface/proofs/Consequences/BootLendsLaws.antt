@@ -11,8 +11,7 @@ use lib.ListN.{length, drop}
 use borrow.Author.Tests.{eq-eqb, ne_eqb, eqb-true, eqb-false, ltb-true, ltb-false}
 use Rattle.words.specs.Sizes.{memory, io, place_of, domain_of, space_of, places}
 use Rattle.descriptor.specs.declared.Reading.TheVariants.{Good}
-use Rattle.reply.specs.declared.Reply.TheVariants.{Success}
-use Rattle.std.specs.Prelude.{if◌then◌else◌}
+use Rattle.std.specs.Prelude.{if◌then◌else◌, Ok}
 use Rattle.interface.specs.Basics.{put, all_below, count_below, any, gather}
 use Rattle.interface.specs.Places.{Cap, State, live, nothing, domain_word, tables_of}
 use Rattle.interface.specs.Boot.{hypervisor, root, root_ec, boot_record, boot_cap, boot}
@@ -164,7 +163,7 @@ all_filled = refl
 
 -- the census of a live place after boot, by its descendants
 count_one : (place only : ℕ) → place < places → live (boot_cap place) ≡ true → descendants boot_cap place ≡ only ∷ [] → (list : List ℕ) → 1 ≤ length list →
-    census_of (tables_of boot) place list ≡ record { reply = Success 1; list = only ∷ drop 1 list }
+    census_of (tables_of boot) place list ≡ record { reply = Ok 1; list = only ∷ drop 1 list }
 count_one place only small alive found list enough =
     census_shown boot boot_ends boot_sound place list ∙ counted_found boot place (only ∷ []) list small alive found enough
 
@@ -198,7 +197,7 @@ module _ (place : ℕ) (of_root : domain_of place ≡ root) (nothing_below : (ot
         (rw granted) ∙
         state_same (act (cut whole_mask place 1 true) boot) (record { caps = put boot_cap place nothing; objects = boot.objects }) emptied (λ r i. refl)
 
-    gives_up : (hypercall_reply (tables_of boot) c ≡ Success 0) ×
+    gives_up : (hypercall_reply (tables_of boot) c ≡ Ok 0) ×
         (hypercall_tables (tables_of boot) c ≡ tables_of (record { caps = put boot_cap place nothing; objects = boot.objects }))
     gives_up = (ap reply_of (judged_shown boot boot_ends c ∙ granted), tables_shown boot boot_ends c ∙ ap tables_of state_after)
 

@@ -8,11 +8,11 @@ use native.Mathlib.Omega.{arith}
 use lib.Dec.{eqb}
 use lib.ListN.{get_or-eq_default}
 use borrow.Author.Tests.{eqb-false}
+use Rattle.reply.specs.declared.Refusal.{Refusal}
 use Rattle.words.specs.Sizes.{domain_of, places, records, record_words}
-use Rattle.reply.specs.Replies.{status_of}
-use Rattle.reply.specs.declared.Reply.{Reply}
-use Rattle.reply.specs.declared.Reply.TheVariants.{Success, BadHyp, Damaged, BadCaller}
-use Rattle.std.specs.Prelude.{if◌then◌else◌}
+use Rattle.reply.specs.Replies.{status_of, Reply}
+use Rattle.reply.specs.declared.Refusal.TheVariants.{BadHyp, Damaged, BadCaller}
+use Rattle.std.specs.Prelude.{if◌then◌else◌, Ok, Err}
 use Rattle.interface.specs.Basics.{word, put, put_from}
 use Rattle.interface.specs.Places.{Cap, State, Tables, parentless, kind_of, greatest_of, sized, cap_at, shown, tables_of}
 use Rattle.interface.specs.Boot.{hypervisor, boot}
@@ -130,21 +130,21 @@ all_stay_sound [] tables h = h
 all_stay_sound (event ∷ events) tables h = all_stay_sound events (tables_after tables event) (stays_sound tables event h)
 
 -- a reply of another status is not DAMAGED
-other_reply : (reply : Reply) → eqb (status_of reply) (status_of Damaged) ≡ false → reply ≡ Damaged → ⊥
-other_reply reply h e = eqb-false (status_of reply) (status_of Damaged) h (ap status_of e)
+other_reply : (reply : Reply) → eqb (status_of reply) (status_of (Err Damaged)) ≡ false → reply ≡ Err Damaged → ⊥
+other_reply reply h e = eqb-false (status_of reply) (status_of (Err Damaged)) h (ap status_of e)
 
 -- a verdict whose reply is not DAMAGED: a refusal with another reply, a grant, a delivery, and a choice between two such
 record Undamaged (v : Verdict) : Type 0 where
-  apart : reply_of v ≡ Damaged → ⊥
+  apart : reply_of v ≡ Err Damaged → ⊥
 
-undamaged_refusal : (reply : Reply) → eqb (status_of reply) (status_of Damaged) ≡ false → Undamaged (refuse reply)
-undamaged_refusal reply h = record { apart = other_reply reply h }
+undamaged_refusal : (refusal : Refusal) → eqb (status_of (Err refusal)) (status_of (Err Damaged)) ≡ false → Undamaged (refuse refusal)
+undamaged_refusal refusal h = record { apart = other_reply (Err refusal) h }
 
 undamaged_grant : (answer : ℕ) (effects : List Effect) → Undamaged (grant answer effects)
-undamaged_grant answer effects = record { apart = other_reply (Success answer) refl }
+undamaged_grant answer effects = record { apart = other_reply (Ok answer) refl }
 
 undamaged_delivery : (answer : ℕ) (effects : List Effect) (block : List ℕ) → Undamaged (deliver answer effects block)
-undamaged_delivery answer effects block = record { apart = other_reply (Success answer) refl }
+undamaged_delivery answer effects block = record { apart = other_reply (Ok answer) refl }
 
 undamaged_choice : (test : Bool) (x y : Verdict) → Undamaged x → Undamaged y → Undamaged (if test then x else y)
 undamaged_choice test x y h k = either_way Undamaged test x y h k
@@ -176,24 +176,24 @@ judged_once tables c =
 
 -- a census of damaged tables
 abbrev pub damaged_census : List ℕ → CensusResult
-damaged_census list = record { reply = Damaged; list = list }
+damaged_census list = record { reply = Err Damaged; list = list }
 
 -- of two outcomes, of which the second alone replies DAMAGED, the reply of the chosen one tells the test
-reply_tells : {A : Type 0} (replies : A → Reply) (test : Bool) (x y : A) → (replies x ≡ Damaged → ⊥) → replies y ≡ Damaged →
-    (replies (if test then x else y) ≡ Damaged) ↔ (test ≡ false)
+reply_tells : {A : Type 0} (replies : A → Reply) (test : Bool) (x y : A) → (replies x ≡ Err Damaged → ⊥) → replies y ≡ Err Damaged →
+    (replies (if test then x else y) ≡ Err Damaged) ↔ (test ≡ false)
 reply_tells replies true x y apart e = (λ d. absurd (apart d), λ f. absurd (true≢false f))
 reply_tells replies false x y apart e = (λ d. refl, λ f. e)
 
 -- a census on a sound state: its reply is not DAMAGED, and the list stays unless it succeeds
 record Outcome (list : List ℕ) (result : CensusResult) : Type 0 where
-  apart : result.reply ≡ Damaged → ⊥
+  apart : result.reply ≡ Err Damaged → ⊥
   stays : (status_of result.reply ≡ 0 → ⊥) → result.list ≡ list
 
-outcome_refusal : (list : List ℕ) (reply : Reply) → eqb (status_of reply) (status_of Damaged) ≡ false → Outcome list (record { reply = reply; list = list })
+outcome_refusal : (list : List ℕ) (reply : Reply) → eqb (status_of reply) (status_of (Err Damaged)) ≡ false → Outcome list (record { reply = reply; list = list })
 outcome_refusal list reply h = record { apart = other_reply reply h; stays = λ n. refl }
 
-outcome_success : (list other : List ℕ) (answer : ℕ) → Outcome list (record { reply = Success answer; list = other })
-outcome_success list other answer = record { apart = other_reply (Success answer) refl; stays = λ n. absurd (n refl) }
+outcome_success : (list other : List ℕ) (answer : ℕ) → Outcome list (record { reply = Ok answer; list = other })
+outcome_success list other answer = record { apart = other_reply (Ok answer) refl; stays = λ n. absurd (n refl) }
 
 outcome_choice : (list : List ℕ) (test : Bool) (x y : CensusResult) → Outcome list x → Outcome list y → Outcome list (if test then x else y)
 outcome_choice list test x y h k = either_way (Outcome list) test x y h k
@@ -261,7 +261,7 @@ hypervisor_stays tables (counts place list) other of_hypervisor = refl
 record LeavesBlock (target : List ℕ) (v : Verdict) : Type 0 where
   same_block : block_of target v ≡ target
 
-refusal_leaves : (target : List ℕ) (reply : Reply) → LeavesBlock target (refuse reply)
+refusal_leaves : (target : List ℕ) (refusal : Refusal) → LeavesBlock target (refuse refusal)
 refusal_leaves target reply = record { same_block = refl }
 
 grant_leaves : (target : List ℕ) (answer : ℕ) (effects : List Effect) → LeavesBlock target (grant answer effects)

@@ -1,4 +1,5 @@
 -- What each creation leaves.
+use Rattle.std.specs.Prelude.{Ok}
 use Prim.Native.Nat.{ℕ, ◌+◌, ◌≤◌, ◌<◌}
 use mathlib.Core.Path.{◌≡◌, refl, sym, ap, ◌∙◌}
 use mathlib.Core.Bool.{true, false}
@@ -8,7 +9,6 @@ use lib.Dec.{ltb}
 use lib.ListN.{length, get_or-eq_default}
 use borrow.Author.Tests.{ltb-true}
 use Rattle.words.specs.Sizes.{domains, domain_of}
-use Rattle.reply.specs.declared.Reply.TheVariants.{Success}
 use Rattle.descriptor.proofs.DescriptorLaws.{good_proper}
 use Rattle.interface.specs.Basics.{word}
 use Rattle.interface.specs.Places.{State, parentless, PD, EC, SC, PT, SM, kind_word, domain_word, cpu_word, event_base_word, ec_word, priority_word, quantum_word, mtd_word, entry_word, identifier_word, count_word, named_words, greatest_of, kind_of}
@@ -108,7 +108,7 @@ plain_leaves s c new is grants none kind e short =
     }
 
 module _ (s : State) (c : Call) (sound : sound_state s ≡ true) (e : is_ec s c.caller ≡ true) where
-  ec_leaves : c.number ≡ CREATE_EC → reply_of (rules s c) ≡ Success 0 → (number : ℕ) × EcCreated s c number
+  ec_leaves : c.number ≡ CREATE_EC → reply_of (rules s c) ≡ Ok 0 → (number : ℕ) × EcCreated s c number
   unfolding hypercall create_ec
   ec_leaves n g =
       let leaves = plain_leaves s c _ (by_rule s c CREATE_EC create_ec refl sound e n) (ec_grants s c sound e n g) refl EC refl (omega arith) in (
@@ -122,7 +122,7 @@ module _ (s : State) (c : Call) (sound : sound_state s ≡ true) (e : is_ec s c.
         },
       )
 
-  sc_leaves : c.number ≡ CREATE_SC → reply_of (rules s c) ≡ Success 0 → (number : ℕ) × ScCreated s c number
+  sc_leaves : c.number ≡ CREATE_SC → reply_of (rules s c) ≡ Ok 0 → (number : ℕ) × ScCreated s c number
   unfolding hypercall create_sc
   sc_leaves n g =
       let leaves = plain_leaves s c _ (by_rule s c CREATE_SC create_sc refl sound e n) (sc_grants s c sound e n g) refl SC refl (omega arith) in (
@@ -136,7 +136,7 @@ module _ (s : State) (c : Call) (sound : sound_state s ≡ true) (e : is_ec s c.
         },
       )
 
-  pt_leaves : c.number ≡ CREATE_PT → reply_of (rules s c) ≡ Success 0 → (number : ℕ) × PtCreated s c number
+  pt_leaves : c.number ≡ CREATE_PT → reply_of (rules s c) ≡ Ok 0 → (number : ℕ) × PtCreated s c number
   unfolding hypercall create_pt
   pt_leaves n g =
       let leaves = plain_leaves s c _ (by_rule s c CREATE_PT create_pt refl sound e n) (pt_grants s c sound e n g) refl PT refl (omega arith) in (
@@ -151,7 +151,7 @@ module _ (s : State) (c : Call) (sound : sound_state s ≡ true) (e : is_ec s c.
         },
       )
 
-  sm_leaves : c.number ≡ CREATE_SM → reply_of (rules s c) ≡ Success 0 → (number : ℕ) × SmCreated s c number
+  sm_leaves : c.number ≡ CREATE_SM → reply_of (rules s c) ≡ Ok 0 → (number : ℕ) × SmCreated s c number
   unfolding hypercall create_sm
   sm_leaves n g =
       let leaves = plain_leaves s c _ (by_rule s c CREATE_SM create_sm refl sound e n) (sm_grants s c sound e n g) refl SM refl (omega arith) in
@@ -199,7 +199,7 @@ module _ (s : State) (c : Call) (sound : sound_state s ≡ true) (e : is_ec s c.
           places_stay = pd_places;
         }
 
-  pd_leaves : c.number ≡ CREATE_PD → reply_of (rules s c) ≡ Success 0 → (number : ℕ) × PdCreated s c number
+  pd_leaves : c.number ≡ CREATE_PD → reply_of (rules s c) ≡ Ok 0 → (number : ℕ) × PdCreated s c number
   unfolding hypercall create_pd
   pd_leaves n g = (free_record s, pd_leaves_so _ (by_rule s c CREATE_PD create_pd refl sound e n) (pd_grants s c sound e n g) refl refl refl refl)
 

@@ -1,4 +1,5 @@
 -- The damage report names the damage: along rules that are numbered in turn, each is intact or is where the report stops.
+use Rattle.std.specs.Prelude.{Option, Some, None}
 use Prim.Native.Nat.{ℕ, zero, suc, ◌<◌}
 use mathlib.Core.Path.{◌≡◌, refl}
 use mathlib.Core.Logic.{◌↔◌}
@@ -10,7 +11,7 @@ use lib.ListN.{length}
 use borrow.Author.Tests.{ltb-true, eq-eqb}
 use Rattle.words.specs.Sizes.{places, records}
 use Rattle.reply.specs.declared.Fault.{Fault}
-use Rattle.reply.specs.declared.Fault.TheVariants.{NoFault, Lengths, AtRecord, AtPlace}
+use Rattle.reply.specs.declared.Fault.TheVariants.{Lengths, AtRecord, AtPlace}
 use Rattle.interface.specs.Basics.{all}
 use Rattle.interface.specs.Places.{State, Tables, place_table_words, object_table_words, sized, shown}
 use Rattle.interface.specs.Damage.{Rule, rules_of_damage, keeps, sound_state, sound, first_fault, fault}
@@ -21,11 +22,11 @@ use Rattle.interface.proofs.Tables.TableLaws.{places_long, objects_long}
 use Rattle.interface.proofs.Sound.Soundness.{kept_records, kept_places, keeps_rule, all_head, all_tail}
 
 -- the two kinds of damage that stand somewhere, each named by the report as it is
-abbrev Named : State → Fault → Type 0
-Named s NoFault = Unit {0}
-Named s Lengths = Unit {0}
-Named s (AtRecord number r) = FirstAtRecord s number r
-Named s (AtPlace number p) = FirstAtPlace s number p
+abbrev Named : State → Option Fault → Type 0
+Named s None = Unit {0}
+Named s (Some Lengths) = Unit {0}
+Named s (Some (AtRecord number r)) = FirstAtRecord s number r
+Named s (Some (AtPlace number p)) = FirstAtPlace s number p
 
 -- the rule of a number, and as many rules as asked for, numbered in turn from a number on
 abbrev numbered : ℕ → Rule
@@ -87,23 +88,23 @@ first_named s number (suc more) before =
     (λ (g : ltb p places ≡ false). rw (f, g) (first_named s (suc number) more (one_more s number before (goes_on s number before f g)))))
 
 -- the report is none exactly where all rules are kept
-none_kept : (s : State) (rules : List Rule) → first_fault s rules ≡ NoFault → all (keeps s) rules ≡ true
+none_kept : (s : State) (rules : List Rule) → first_fault s rules ≡ None → all (keeps s) rules ≡ true
 unfolding first_fault all
 none_kept s [] h = refl
 none_kept s (rule ∷ rules) h =
     let r = record_failure s rule in
     let p = place_failure s rule in
     cases (ltb r records)
-    (λ (t : ltb r records ≡ true). let at : AtRecord rule.number r ≡ NoFault = rw t at h in let z : ◌≡◌ {A = ℕ} 0 1 = cc in absurd (omega arith))
+    (λ (t : ltb r records ≡ true). let at : Some (AtRecord rule.number r) ≡ None = rw t at h in let z : ◌≡◌ {A = ℕ} 0 1 = cc in absurd (omega arith))
     (λ (f : ltb r records ≡ false).
     cases (ltb p places)
-    (λ (t : ltb p places ≡ true). let at : AtPlace rule.number p ≡ NoFault = rw (f, t) at h in let z : ◌≡◌ {A = ℕ} 0 1 = cc in absurd (omega arith))
+    (λ (t : ltb p places ≡ true). let at : Some (AtPlace rule.number p) ≡ None = rw (f, t) at h in let z : ◌≡◌ {A = ℕ} 0 1 = cc in absurd (omega arith))
     (λ (g : ltb p places ≡ false).
     both (keeps s rule) (all (keeps s) rules)
     (keeps_rule s rule (no_failure records (rule.record_keeps_lem s) f) (no_failure places (rule.place_keeps_lem s) g))
     (none_kept s rules (rw (f, g) at h))))
 
-pub kept_none : (s : State) (rules : List Rule) → all (keeps s) rules ≡ true → first_fault s rules ≡ NoFault
+pub kept_none : (s : State) (rules : List Rule) → all (keeps s) rules ≡ true → first_fault s rules ≡ None
 unfolding first_fault
 kept_none s [] h = refl
 kept_none s (rule ∷ rules) h =
@@ -129,10 +130,10 @@ sized_named tables =
     cases (sized tables) (λ (t : sized tables ≡ true). rw (t, rules_in_turn) (first_named (shown tables) 2 11 (none_earlier (shown tables))))
     (λ (f : sized tables ≡ false). rw f tt)
 
-named_at : (s : State) (found named : Fault) → found ≡ named → Named s found → Named s named
+named_at : (s : State) (found named : Option Fault) → found ≡ named → Named s found → Named s named
 named_at s found named e h = rw e at h
 
-no_fault_sound : (tables : Tables) → (fault tables ≡ NoFault) ↔ (sound tables ≡ true)
+no_fault_sound : (tables : Tables) → (fault tables ≡ None) ↔ (sound tables ≡ true)
 unfolding fault sound sound_state
 no_fault_sound tables =
     cases (sized tables) (λ (t : sized tables ≡ true). rw t (none_kept (shown tables) rules_of_damage, kept_none (shown tables) rules_of_damage))
@@ -140,20 +141,20 @@ no_fault_sound tables =
     rw f ((λ h. let z : ◌≡◌ {A = ℕ} 0 1 = cc in absurd (omega arith)), (λ h. absurd (false≢true h))))
 
 -- a state has no fault of lengths
-never_lengths : (s : State) (rules : List Rule) → first_fault s rules ≡ Lengths → ⊥
+never_lengths : (s : State) (rules : List Rule) → first_fault s rules ≡ Some Lengths → ⊥
 unfolding first_fault
 never_lengths s [] h = let z : ◌≡◌ {A = ℕ} 0 1 = cc in omega arith
 never_lengths s (rule ∷ rules) h =
     cases (ltb (record_failure s rule) records)
     (λ (t : ltb (record_failure s rule) records ≡ true).
-    let at : AtRecord rule.number (record_failure s rule) ≡ Lengths = rw t at h in let z : ◌≡◌ {A = ℕ} 0 1 = cc in omega arith)
+    let at : Some (AtRecord rule.number (record_failure s rule)) ≡ Some Lengths = rw t at h in let z : ◌≡◌ {A = ℕ} 0 1 = cc in omega arith)
     (λ (f : ltb (record_failure s rule) records ≡ false).
     cases (ltb (place_failure s rule) places)
     (λ (t : ltb (place_failure s rule) places ≡ true).
-    let at : AtPlace rule.number (place_failure s rule) ≡ Lengths = rw (f, t) at h in let z : ◌≡◌ {A = ℕ} 0 1 = cc in omega arith)
+    let at : Some (AtPlace rule.number (place_failure s rule)) ≡ Some Lengths = rw (f, t) at h in let z : ◌≡◌ {A = ℕ} 0 1 = cc in omega arith)
     (λ (g : ltb (place_failure s rule) places ≡ false). never_lengths s rules (rw (f, g) at h)))
 
-lengths_wrong : (tables : Tables) → (fault tables ≡ Lengths) ↔ ((length tables.places ≡ place_table_words) × (length tables.objects ≡ object_table_words) → ⊥)
+lengths_wrong : (tables : Tables) → (fault tables ≡ Some Lengths) ↔ ((length tables.places ≡ place_table_words) × (length tables.objects ≡ object_table_words) → ⊥)
 unfolding fault sized
 lengths_wrong tables =
     let places_right = eqb (length tables.places) place_table_words in
@@ -173,7 +174,7 @@ damage_named =
     record {
       no_fault = no_fault_sound;
       lengths = lengths_wrong;
-      at_record = λ tables number r e. named_at (shown tables) (fault tables) (AtRecord number r) e (sized_named tables);
-      at_place = λ tables number p e. named_at (shown tables) (fault tables) (AtPlace number p) e (sized_named tables);
+      at_record = λ tables number r e. named_at (shown tables) (fault tables) (Some (AtRecord number r)) e (sized_named tables);
+      at_place = λ tables number p e. named_at (shown tables) (fault tables) (Some (AtPlace number p)) e (sized_named tables);
       rule_numbers = refl;
     }

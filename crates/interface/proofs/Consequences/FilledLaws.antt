@@ -7,6 +7,7 @@ use mathlib.Core.List.{List, [], ◌∷◌, ◌++◌}
 use native.Mathlib.Omega.{arith}
 use lib.Dec.{eqb}
 use borrow.Author.Tests.{eq-eqb, eqb-true, eqb-false, ltb-true, ltb-false}
+use Rattle.reply.specs.declared.Refusal.{Refusal}
 use Rattle.words.specs.Sizes.{domains, object, selectors, place_of}
 use Rattle.words.specs.Permissions.{revoked}
 use Rattle.words.proofs.PlaceLaws.{selector_back}
@@ -14,8 +15,8 @@ use Rattle.descriptor.specs.Descriptors.{Proper}
 use Rattle.descriptor.specs.declared.Range.{Range}
 use Rattle.descriptor.specs.declared.Reading.{Reading}
 use Rattle.descriptor.specs.declared.Reading.TheVariants.{Null, Malformed, Good}
-use Rattle.reply.specs.declared.Reply.{Reply}
-use Rattle.reply.specs.declared.Reply.TheVariants.{BadHyp, BadPar, Damaged}
+use Rattle.reply.specs.Replies.{Reply}
+use Rattle.reply.specs.declared.Refusal.TheVariants.{BadHyp, BadPar, Damaged}
 use Rattle.descriptor.proofs.DescriptorLaws.{good_proper}
 use Rattle.interface.specs.Basics.{word}
 use Rattle.interface.specs.Places.{Cap, State, live, parentless, free, kind_word, kind_of, greatest_of, object_place, object_in}
@@ -68,12 +69,12 @@ module _ (s : State) (c : Call) where
         fills_so = λ place n t. not_both (live (s.caps place)) (rw (same place) at t) n;
       }
 
-  refusal_adds : (reply : Reply) → Adds (refuse reply)
+  refusal_adds : (refusal : Refusal) → Adds (refuse refusal)
   unfolding run
   refusal_adds reply = stays_adds (refuse reply) (λ place. refl)
 
   -- a check of a rule has the steps of what follows it, or none
-  require_adds : (test : Bool) (reply : Reply) (next : Verdict) → (test ≡ true → Adds next) → Adds (require test else reply then next)
+  require_adds : (test : Bool) (refusal : Refusal) (next : Verdict) → (test ≡ true → Adds next) → Adds (require test else refusal then next)
   require_adds test reply next = require_so Adds test reply next (refusal_adds reply)
 
   -- CALL's steps are its message's

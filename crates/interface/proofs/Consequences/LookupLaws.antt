@@ -1,4 +1,5 @@
 -- A selector that holds nothing is reported as nothing: what LOOKUP answers, that the order of its range is the largest, and that it is 6 at most.
+use Rattle.std.specs.Prelude.{Ok}
 use Prim.Native.Nat.{ℕ, zero, suc, ◌+◌, ◌-◌, ◌^◌, ◌≤◌, ◌<◌}
 use mathlib.Core.Path.{◌≡◌, refl, sym, ap, ◌∙◌}
 use mathlib.Core.Bool.{Bool, true, false, not, ◌&&◌, true≢false}
@@ -18,7 +19,7 @@ use Rattle.descriptor.proofs.DescriptorLaws.{fields_word, good_proper}
 use Rattle.descriptor.specs.declared.Range.{Range}
 use Rattle.descriptor.specs.declared.Reading.{Reading}
 use Rattle.descriptor.specs.declared.Reading.TheVariants.{Null, Malformed, Good}
-use Rattle.reply.specs.declared.Reply.TheVariants.{Success, BadPar}
+use Rattle.reply.specs.declared.Refusal.TheVariants.{BadPar}
 use Rattle.interface.specs.Places.{Cap, State, live, free, kind_of}
 use Rattle.interface.specs.RangeDescriptors.{type_of, order_field, describe, reading, malformed}
 use Rattle.interface.specs.Verdicts.{Call, LOOKUP, grant, caller_domain, reply_of}
@@ -173,7 +174,7 @@ found_nothing s domain (Good range) m =
     (λ (f : alive ≡ false). rw f (λ _. refl, λ _. refl))
 
 -- a LOOKUP that succeeds answers what is found
-lookup_granted : (s : State) (c : Call) (answer : ℕ) → c.number ≡ LOOKUP → reply_of (rules s c) ≡ Success answer →
+lookup_granted : (s : State) (c : Call) (answer : ℕ) → c.number ≡ LOOKUP → reply_of (rules s c) ≡ Ok answer →
     rules s c ≡ grant (found s (caller_domain s c) (reading c.first)) []
 unfolding hypercall lookup
 lookup_granted s c answer n h =

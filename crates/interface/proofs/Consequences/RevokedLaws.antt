@@ -1,5 +1,6 @@
 -- Revocation is exact: a REVOKE that succeeds takes one cut of its range, or no step for a null descriptor. And the cut of a range whose mask has no permission of its space would
 -- change nothing.
+use Rattle.std.specs.Prelude.{Ok}
 use Prim.Native.Nat.{ℕ, ◌+◌, ◌^◌, ◌<◌}
 use mathlib.Core.Path.{◌≡◌, refl, sym, ap, ◌∙◌}
 use mathlib.Core.Logic.{⊎_elim}
@@ -15,7 +16,7 @@ use Rattle.descriptor.specs.declared.Reading.{Reading}
 use Rattle.descriptor.specs.declared.Reading.TheVariants.{Null, Malformed, Good}
 use Rattle.descriptor.specs.Descriptors.{Proper, ReadProper}
 use Rattle.descriptor.proofs.DescriptorLaws.{good_proper, proper_space}
-use Rattle.reply.specs.declared.Reply.TheVariants.{Success, BadPar}
+use Rattle.reply.specs.declared.Refusal.TheVariants.{BadPar}
 use Rattle.interface.specs.Places.{Cap, State, Tables, live, nothing, shown, greatest_in}
 use Rattle.interface.specs.Damage.{sound}
 use Rattle.interface.specs.RangeDescriptors.{reading, malformed}
@@ -42,7 +43,7 @@ cuts_objects s domain self Malformed = refl
 cuts_objects s domain self (Good range) = refl
 
 -- a REVOKE that succeeds takes the steps of its descriptor's revocation
-after_revoke : (s : State) (c : Call) (answer : ℕ) → c.number ≡ REVOKE → reply_of (rules s c) ≡ Success answer →
+after_revoke : (s : State) (c : Call) (answer : ℕ) → c.number ≡ REVOKE → reply_of (rules s c) ≡ Ok answer →
     after s c ≡ run (cuts (caller_domain s c) (eqb c.second 1) (reading c.first)) s
 unfolding hypercall revoke
 after_revoke s c answer n h =

@@ -1,4 +1,6 @@
 -- The reasons in received second words change nothing else: by induction over the items, and then check by check.
+use Rattle.reply.specs.declared.Refusal.{Refusal}
+use Rattle.std.specs.Prelude.{Ok}
 use Prim.Native.Nat.{ℕ, zero, suc, ◌+◌, ◌≤◌, ◌<◌}
 use mathlib.Core.Path.{◌≡◌, refl, sym, ap, ◌∙◌}
 use mathlib.Core.Bool.{Bool, true, false, not, ◌&&◌, true≢false}
@@ -13,9 +15,9 @@ use lib.Seq.{set_out, get_or-set_same, get_or-set_other}
 use borrow.Author.Tests.{eqb-true, eqb-false, ltb-true, ltb-false}
 use Rattle.words.specs.Fields.{bits}
 use Rattle.words.specs.Sizes.{block_words}
-use Rattle.descriptor.specs.declared.Received.{Received}
-use Rattle.reply.specs.declared.Reply.{Reply}
-use Rattle.reply.specs.declared.Reply.TheVariants.{Success, ComTim, BadCap, BadPar, BadCpu, Damaged, BadCaller}
+use Rattle.descriptor.specs.Descriptors.{Received}
+use Rattle.reply.specs.Replies.{Reply}
+use Rattle.reply.specs.declared.Refusal.TheVariants.{ComTim, BadCap, BadPar, BadCpu, Damaged, BadCaller}
 use Rattle.interface.specs.Basics.{word}
 use Rattle.interface.specs.Places.{State, Tables, PT, ec_word, cpu_word, call_bit, object_place, permitted, object_in, sized, shown}
 use Rattle.interface.specs.Damage.{sound_state, is_ec}
@@ -137,7 +139,7 @@ module _ (c : Call) where
     known : c.number ≡ CALL → refuses b ≡ false → block_of c.target a ≡ block
 
   module _ {block : List ℕ} where
-    same_required : (test : Bool) (reply : Reply) {a b : Verdict} → Same block a b → Same block (require test else reply then a) (require test else reply then b)
+    same_required : (test : Bool) (refusal : Refusal) {a b : Verdict} → Same block a b → Same block (require test else refusal then a) (require test else refusal then b)
     same_required true reply same = same
     same_required false reply same =
         record { reply = refl; steps = refl; long = refl; words = λ number off. refl; known = λ n granted. absurd (true≢false granted) }
@@ -159,7 +161,7 @@ module _ (c : Call) where
         (same_required (eqb (s.objects callee cpu_word) (s.objects c.caller cpu_word)) BadCpu
         (same_required (payload_fits (word c.source 0)) BadPar
         (record {
-          reply = ap Success moved.count;
+          reply = ap Ok moved.count;
           steps = moved.steps;
           long = moved.long;
           words =
@@ -197,7 +199,7 @@ module _ (s : State) (c : Call) where
   unfolding rules_with rules called hypercall
   is_rules = cases (eqb c.number CALL) (λ (t : eqb c.number CALL ≡ true). rw (t, is_call)) (λ (f : eqb c.number CALL ≡ false). rw f)
 
-  kinds_alone : (answer item : ℕ) → c.number ≡ CALL → reply_of (rules s c) ≡ Success answer → item < item_count c →
+  kinds_alone : (answer item : ℕ) → c.number ≡ CALL → reply_of (rules s c) ≡ Ok answer → item < item_count c →
       word (block_of c.target (rules_with (λ received. 0) s c)) (second_at item) ≡ bits 0 0 (second_word c item)
   kinds_alone answer item n succeeds l =
       let (effects, block, h) = call_delivers s c answer n succeeds in

@@ -1,4 +1,5 @@
 -- Delegations: they leave live places and fill null ones with what their sources have; and a message's steps are delegations that its items ask for.
+use Rattle.std.specs.Prelude.{Ok, Err}
 use Prim.Native.Nat.{ℕ, zero, suc, ◌+◌, ◌^◌, ◌≤◌, ◌<◌}
 use mathlib.Core.Path.{◌≡◌, refl, sym, ap, ◌∙◌, subst}
 use mathlib.Core.Bool.{true, false}
@@ -12,12 +13,10 @@ use Rattle.words.specs.Sizes.{selectors, domain_of, place_of}
 use Rattle.words.proofs.BitLaws.{delegated_within_source, delegated_within_mask}
 use Rattle.words.proofs.PlaceLaws.{domain_back, space_back, selector_back}
 use Rattle.words.proofs.RangeLaws.{starts_inside, ends_inside}
-use Rattle.descriptor.specs.Descriptors.{Proper}
+use Rattle.descriptor.specs.Descriptors.{Proper, Match}
 use Rattle.descriptor.specs.declared.Range.{Range}
 use Rattle.descriptor.specs.declared.Reading.{Reading}
 use Rattle.descriptor.specs.declared.Reading.TheVariants.{Good}
-use Rattle.descriptor.specs.declared.Match.{Match}
-use Rattle.descriptor.specs.declared.Match.TheVariants.{Both, Neither}
 use Rattle.descriptor.proofs.DescriptorLaws.{good_proper}
 use Rattle.interface.specs.Basics.{word, listed}
 use Rattle.interface.specs.Places.{Cap, State, live}
@@ -181,8 +180,8 @@ RangeAsks Ask sender receiver second item window =
     (place source : ℕ) → OwnSource sender second source → LiesIn item source → domain_of place ≡ receiver → LiesIn window place → Ask place source item.mask
 
 -- an item's steps are delegations that it asks for
-pub delegate_gives : (Ask : ℕ → ℕ → ℕ → Type 0) (s : State) (sender receiver second : ℕ) (item window : Range) → MatchProper (Both item window) →
-    RangeAsks Ask sender receiver second item window → OnlyGives Ask (delegate_item s sender receiver second (Both item window)).effects
+pub delegate_gives : (Ask : ℕ → ℕ → ℕ → Type 0) (s : State) (sender receiver second : ℕ) (item window : Range) → MatchProper (Ok (item, window)) →
+    RangeAsks Ask sender receiver second item window → OnlyGives Ask (delegate_item s sender receiver second (Ok (item, window))).effects
 unfolding delegate_item
 delegate_gives Ask s sender receiver second item window p asks =
     let from = source_domain sender second in
@@ -208,14 +207,14 @@ matched_gives : (Ask : ℕ → ℕ → ℕ → Type 0) (s : State) (sender recei
     ((item window : Range) → read ≡ Good item → window_read ≡ Good window → item.space ≡ window.space → RangeAsks Ask sender receiver second item window) →
     OnlyGives Ask (delegate_item s sender receiver second match).effects
 unfolding delegate_item
-matched_gives Ask s sender receiver second read window_read (Neither reason) p r asks = gives_none
-matched_gives Ask s sender receiver second read window_read (Both item window) p r asks =
+matched_gives Ask s sender receiver second read window_read (Err reason) p r asks = gives_none
+matched_gives Ask s sender receiver second read window_read (Ok (item, window)) p r asks =
     delegate_gives Ask s sender receiver second item window p (asks item window r.0 r.1 p.2)
 
 translate_gives : (Ask : ℕ → ℕ → ℕ → Type 0) (s : State) (sender receiver : ℕ) (match : Match) → OnlyGives Ask (translate_item s sender receiver match).effects
 unfolding translate_item
-translate_gives Ask s sender receiver (Neither reason) = gives_none
-translate_gives Ask s sender receiver (Both item window) = gives_none
+translate_gives Ask s sender receiver (Err reason) = gives_none
+translate_gives Ask s sender receiver (Ok (item, window)) = gives_none
 
 -- what an item of a message asks for: where it sets the delegate bit, its range to the receiver's window
 abbrev pub ItemAsks : (ℕ → ℕ → ℕ → Type 0) → (sender receiver : ℕ) (source target : List ℕ) (i : ℕ) → Type 0

@@ -1,4 +1,5 @@
 -- What CALL's items deliver: how far a message has come before each offset, one delegation at a time.
+use Rattle.std.specs.Prelude.{Ok, Err}
 use Rattle.reply.specs.Replies.{status_of}
 use Prim.Native.Nat.{ℕ, suc, ◌+◌, ◌*◌, ◌≤◌, ◌<◌}
 use mathlib.Core.Path.{◌≡◌, refl, sym, ap, ◌∙◌}
@@ -14,11 +15,9 @@ use lib.Seq.{take_all}
 use borrow.Author.Tests.{leb-true, eqb-true, eqb-false, eq-eqb, ne_eqb, ltb-true, lt-ltb, not-true}
 use Rattle.words.specs.Sizes.{domains, greatest_depth, block_words}
 use Rattle.descriptor.specs.declared.Range.{Range}
-use Rattle.descriptor.specs.declared.Match.{Match}
-use Rattle.descriptor.specs.declared.Match.TheVariants.{Both, Neither}
-use Rattle.descriptor.specs.declared.Received.TheVariants.{NullItem}
+use Rattle.descriptor.specs.Descriptors.{Match}
 use Rattle.descriptor.specs.declared.Reason.{Reason}
-use Rattle.reply.specs.declared.Reply.TheVariants.{ComTim, BadCap, BadPar, BadCpu, Success}
+use Rattle.reply.specs.declared.Refusal.TheVariants.{ComTim, BadCap, BadPar, BadCpu}
 use Rattle.descriptor.proofs.DescriptorLaws.{matched_both, matched_good}
 use Rattle.interface.specs.Basics.{word, listed}
 use Rattle.interface.specs.Places.{Cap, State, live, PT, ec_word, cpu_word, call_bit, object_place, permitted, object_in, domain_word}
@@ -89,22 +88,22 @@ unfolding fills_one
 due_counts s destination source mask due = rw (due_fills s destination source mask due)
 
 -- an item that is not matched with its window is null, and takes no step; and one that translates takes none
-unmatched_none : (match : Match) (now : State) (sender receiver second : ℕ) → ((range window : Range) → match ≡ Both range window → ⊥) →
-    (reason : Reason) × (delegate_item now sender receiver second match ≡ record { received = NullItem reason; effects = [] })
+unmatched_none : (match : Match) (now : State) (sender receiver second : ℕ) → ((range window : Range) → match ≡ Ok (range, window) → ⊥) →
+    (reason : Reason) × (delegate_item now sender receiver second match ≡ record { received = Err reason; effects = [] })
 unfolding delegate_item
-unmatched_none (Neither reason) now sender receiver second other = (reason, refl)
-unmatched_none (Both range window) now sender receiver second other = absurd (other range window refl)
+unmatched_none (Err reason) now sender receiver second other = (reason, refl)
+unmatched_none (Ok (range, window)) now sender receiver second other = absurd (other range window refl)
 
-translate_unmatched : (match : Match) (now : State) (sender receiver : ℕ) → ((range window : Range) → match ≡ Both range window → ⊥) →
-    (reason : Reason) × (translate_item now sender receiver match ≡ record { received = NullItem reason; effects = [] })
+translate_unmatched : (match : Match) (now : State) (sender receiver : ℕ) → ((range window : Range) → match ≡ Ok (range, window) → ⊥) →
+    (reason : Reason) × (translate_item now sender receiver match ≡ record { received = Err reason; effects = [] })
 unfolding translate_item
-translate_unmatched (Neither reason) now sender receiver other = (reason, refl)
-translate_unmatched (Both range window) now sender receiver other = absurd (other range window refl)
+translate_unmatched (Err reason) now sender receiver other = (reason, refl)
+translate_unmatched (Ok (range, window)) now sender receiver other = absurd (other range window refl)
 
 translate_none : (match : Match) (now : State) (sender receiver : ℕ) → (translate_item now sender receiver match).effects ≡ []
 unfolding translate_item
-translate_none (Neither reason) now sender receiver = refl
-translate_none (Both range window) now sender receiver = refl
+translate_none (Err reason) now sender receiver = refl
+translate_none (Ok (range, window)) now sender receiver = refl
 
 module _ (s : State) (c : Call) where
   -- the message before an item, and the item's outcome
@@ -157,7 +156,7 @@ module _ (s : State) (c : Call) where
     step_at offset = give (destination_at s c item range window offset) (source_at s c item range window offset) range.mask
 
     pub outcome_delegates : outcome item ≡
-        delegate_item (state_before item) (caller_domain s c) (callee_domain s c) (word c.source (second_at item)) (Both range window)
+        delegate_item (state_before item) (caller_domain s c) (callee_domain s c) (word c.source (second_at item)) (Ok (range, window))
     unfolding item_of
     outcome_delegates =
         let second = word c.source (second_at item) in
@@ -236,7 +235,7 @@ module _ (s : State) (c : Call) where
 
   -- any other item takes no step: one that is not matched with its window, and one that translates
   pub outcome_unmatched : (item : ℕ) → ((range window : Range) → DelegatesTo c item range window → ⊥) → delegate_bit (word c.source (second_at item)) ≡ 1 →
-      (reason : Reason) × (outcome item ≡ record { received = NullItem reason; effects = [] })
+      (reason : Reason) × (outcome item ≡ record { received = Err reason; effects = [] })
   unfolding item_of
   outcome_unmatched item other bit =
       let second = word c.source (second_at item) in
@@ -262,13 +261,13 @@ module _ (s : State) (c : Call) where
 
   -- where it is matched with that window, those two are what is translated; and where it is not, it is null
   pub outcome_matched : (item : ℕ) (range window : Range) → TranslatesTo c item range window →
-      outcome item ≡ translate_item (state_before item) (caller_domain s c) (callee_domain s c) (Both range window)
+      outcome item ≡ translate_item (state_before item) (caller_domain s c) (callee_domain s c) (Ok (range, window))
   outcome_matched item range window to =
       let bit = to.translate_bit in
       outcome_translates item (λ one. omega arith) ∙ (rw (to.range_read, to.window_read, matched_both range window to.same_space))
 
   pub outcome_untranslated : (item : ℕ) → ((range window : Range) → TranslatesTo c item range window → ⊥) → delegate_bit (word c.source (second_at item)) ≡ 0 →
-      (reason : Reason) × (outcome item ≡ record { received = NullItem reason; effects = [] })
+      (reason : Reason) × (outcome item ≡ record { received = Err reason; effects = [] })
   outcome_untranslated item other bit =
       let item_read = reading (word c.source (descriptor_at item)) in
       let window_read = reading (word c.target translate_window) in
@@ -365,7 +364,7 @@ five_passed : (whole held other same fits : Bool) (last : Verdict) (answer : ℕ
     let all =
     require whole else BadPar then require held else BadCap then require other else ComTim then require same else BadCpu then
     require fits else BadPar then last in
-    reply_of all ≡ Success answer → all ≡ last
+    reply_of all ≡ Ok answer → all ≡ last
 five_passed true true true true true last answer h = refl
 five_passed true true true true false last answer h = absurd (omega (arith, ap status_of h))
 five_passed true true true false fits last answer h = absurd (omega (arith, ap status_of h))
@@ -373,7 +372,7 @@ five_passed true true false same fits last answer h = absurd (omega (arith, ap s
 five_passed true false other same fits last answer h = absurd (omega (arith, ap status_of h))
 five_passed false held other same fits last answer h = absurd (omega (arith, ap status_of h))
 
-pub call_delivers : (s : State) (c : Call) (answer : ℕ) → c.number ≡ CALL → reply_of (rules s c) ≡ Success answer →
+pub call_delivers : (s : State) (c : Call) (answer : ℕ) → c.number ≡ CALL → reply_of (rules s c) ≡ Ok answer →
     (effects : List Effect) × (block : List ℕ) × (rules s c ≡ deliver answer effects block)
 unfolding hypercall portal_call
 call_delivers s c answer n h =

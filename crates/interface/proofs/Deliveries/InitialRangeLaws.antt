@@ -1,6 +1,7 @@
 -- What CREATE_PD's initial range delivers: its delegations go from one domain to another, so each is what it would be alone.
+use Rattle.std.specs.Prelude.{Ok}
 use Rattle.reply.specs.Replies.{status_of}
-use Rattle.reply.specs.declared.Reply.TheVariants.{Success, BadCap, BadCpu, BadPar, NoRoom}
+use Rattle.reply.specs.declared.Refusal.TheVariants.{BadCap, BadCpu, BadPar, NoRoom}
 use Prim.Native.Nat.{ℕ, zero, suc, ◌+◌, ◌^◌, ◌<◌}
 use mathlib.Core.Path.{◌≡◌, refl, sym, ap, ◌∙◌, subst}
 use mathlib.Core.Bool.{Bool, true, false, not, ◌&&◌}
@@ -248,7 +249,7 @@ six_passed : (null held bound cpu good room : Bool) (last : Verdict) (answer : �
     let all =
     require null else BadCap then require held else BadCap then require bound else BadCap then require cpu else BadCpu then
     require good else BadPar then require room else NoRoom then last in
-    reply_of all ≡ Success answer → all ≡ last
+    reply_of all ≡ Ok answer → all ≡ last
 six_passed true true true true true true last answer h = refl
 six_passed true true true true true false last answer h = absurd (omega (arith, ap status_of h))
 six_passed true true true true false room last answer h = absurd (omega (arith, ap status_of h))
@@ -257,7 +258,7 @@ six_passed true true false cpu good room last answer h = absurd (omega (arith, a
 six_passed true false bound cpu good room last answer h = absurd (omega (arith, ap status_of h))
 six_passed false held bound cpu good room last answer h = absurd (omega (arith, ap status_of h))
 
-pd_grants : (s : State) (c : Call) (answer : ℕ) → c.number ≡ CREATE_PD → reply_of (rules s c) ≡ Success answer →
+pd_grants : (s : State) (c : Call) (answer : ℕ) → c.number ≡ CREATE_PD → reply_of (rules s c) ≡ Ok answer →
     (effects : List Effect) × (rules s c ≡ grant 0 effects)
 unfolding hypercall create_pd creation
 pd_grants s c answer n h =

@@ -1,4 +1,5 @@
 -- Why an item is null: what an item comes to says which cause is the first that holds, or that none does.
+use Rattle.std.specs.Prelude.{Ok, Err, if◌then◌else◌}
 use Prim.Native.Nat.{ℕ, zero, suc, ◌+◌, ◌≤◌, ◌<◌, min}
 use mathlib.Core.Path.{◌≡◌, refl, sym, ap, subst, ◌∙◌}
 use mathlib.Core.Logic.{◌↔◌, ◌⊎◌, inl, inr, ⊎_elim}
@@ -14,14 +15,10 @@ use Rattle.words.specs.Sizes.{domains}
 use Rattle.descriptor.specs.declared.Range.{Range}
 use Rattle.descriptor.specs.declared.Reading.{Reading}
 use Rattle.descriptor.specs.declared.Reading.TheVariants.{Null, Malformed, Good}
-use Rattle.descriptor.specs.declared.Match.{Match}
-use Rattle.descriptor.specs.declared.Match.TheVariants.{Both, Neither}
+use Rattle.descriptor.specs.Descriptors.{Match, Received}
 use Rattle.descriptor.specs.declared.Reason.{Reason}
 use Rattle.descriptor.specs.declared.Reason.TheVariants.{NullDescriptor, MalformedDescriptor, TypesDiffer, NothingFilled, TranslationBroke}
-use Rattle.descriptor.specs.declared.Received.{Received}
-use Rattle.descriptor.specs.declared.Received.TheVariants.{NullItem, Shows}
 use Rattle.descriptor.proofs.DescriptorLaws.{good_proper, null_type, good_type, reading_null, reason_some, reason_most, why_most, same_reason}
-use Rattle.std.specs.Prelude.{if◌then◌else◌}
 use Rattle.interface.specs.Basics.{word, listed}
 use Rattle.interface.specs.Places.{State}
 use Rattle.interface.specs.Damage.{sound_state}
@@ -74,7 +71,7 @@ module _ (s : State) (c : Call) (item : ℕ) where
     destination_range =
         record { space = range.space; base = hot_base c item range window window; order = min range.order window.order; mask = range.mask }
 
-    pub received_by_filled : (outcome s c item).received ≡ (if eqb filled_by 0 then NullItem NothingFilled else Shows destination_range)
+    pub received_by_filled : (outcome s c item).received ≡ (if eqb filled_by 0 then Err NothingFilled else Ok destination_range)
     unfolding delegate_item source_domain
     received_by_filled = rw (outcome_delegates s c item range window to)
 
@@ -132,11 +129,11 @@ module _ (s : State) (c : Call) (item : ℕ) where
 
   -- what the item and its window are read as, and what their match says of the causes
   abbrev MatchTells : Match → Type 0
-  MatchTells (Neither reason) = FirstCause s c item reason
-  MatchTells (Both range window) =
+  MatchTells (Err reason) = FirstCause s c item reason
+  MatchTells (Ok (range, window)) =
       (reading (first_word c item) ≡ Good range) × (reading (window_word c item) ≡ Good window) × (range.space ≡ window.space) × Clear 4
 
-  first_null : Cause s c item NullDescriptor → MatchTells (Neither NullDescriptor)
+  first_null : Cause s c item NullDescriptor → MatchTells (Err NullDescriptor)
   first_null cause = record { holds = cause; none_lower = clear_first }
 
   module _ (a b : Reading) (is_a : reading (first_word c item) ≡ a) (is_b : reading (window_word c item) ≡ b) where
@@ -146,7 +143,7 @@ module _ (s : State) (c : Call) (item : ℕ) where
         (⊎_elim (λ (e : bits 0 1 (first_word c item) ≡ 0). m (sym is_a ∙ reading_null (first_word c item) e))
         (λ (e : bits 0 1 (window_word c item) ≡ 0). n (sym is_b ∙ reading_null (window_word c item) e)))
 
-    first_malformed : (a ≡ Null → ⊥) → (b ≡ Null → ⊥) → (a ≡ Malformed) ⊎ (b ≡ Malformed) → MatchTells (Neither MalformedDescriptor)
+    first_malformed : (a ≡ Null → ⊥) → (b ≡ Null → ⊥) → (a ≡ Malformed) ⊎ (b ≡ Malformed) → MatchTells (Err MalformedDescriptor)
     first_malformed m n cause =
         record {
           holds = ⊎_elim (λ (e : a ≡ Malformed). inl (is_a ∙ e)) (λ (e : b ≡ Malformed). inr (is_b ∙ e)) cause;
@@ -170,7 +167,7 @@ module _ (s : State) (c : Call) (item : ℕ) where
           clear_next MalformedDescriptor (not_null (Good range) (Good window) p q good_some good_some)
           (⊎_elim (λ (e : reading (first_word c item) ≡ Malformed). good_formed (sym p ∙ e)) (λ (e : reading (window_word c item) ≡ Malformed). good_formed (sym q ∙ e)))
 
-      same_type : (same : Bool) → eqb range.space window.space ≡ same → MatchTells (cond same (Both range window) (Neither TypesDiffer))
+      same_type : (same : Bool) → eqb range.space window.space ≡ same → MatchTells (cond same (Ok (range, window)) (Err TypesDiffer))
       same_type true e =
           let same = eqb-true range.space window.space e in
           let one_type : bits 0 1 (first_word c item) ≡ bits 0 1 (window_word c item) =
@@ -187,8 +184,8 @@ module _ (s : State) (c : Call) (item : ℕ) where
 
   -- what an item comes to says of the causes: a null one's reason is the first that applies, and for one that shows something none does
   abbrev Tells : Received → Type 0
-  Tells (NullItem reason) = FirstCause s c item reason
-  Tells (Shows range) = (reason : Reason) → Cause s c item reason → ⊥
+  Tells (Err reason) = FirstCause s c item reason
+  Tells (Ok range) = (reason : Reason) → Cause s c item reason → ⊥
 
   nothing_holds : Clear 6 → (reason : Reason) → Cause s c item reason → ⊥
   nothing_holds clear reason cause = clear reason (omega (arith, reason_most reason)) cause
@@ -201,23 +198,23 @@ module _ (s : State) (c : Call) (item : ℕ) where
     delegate_tells : (match : Match) → matched (reading (first_word c item)) (reading (window_word c item)) ≡ match → MatchTells match →
         Tells (outcome s c item).received
     unfolding item_of delegate_item
-    delegate_tells (Neither reason) e tells =
-        let there : matched (reading (first_word c item)) (reading (word c.target 2)) ≡ Neither reason = rw window_delegates at e in
-        let is_null : (outcome s c item).received ≡ NullItem reason = rw (eq-eqb (delegate_bit (second_word c item)) 1 bit, there) in
+    delegate_tells (Err reason) e tells =
+        let there : matched (reading (first_word c item)) (reading (word c.target 2)) ≡ Err reason = rw window_delegates at e in
+        let is_null : (outcome s c item).received ≡ Err reason = rw (eq-eqb (delegate_bit (second_word c item)) 1 bit, there) in
         subst Tells (sym is_null) tells
-    delegate_tells (Both range window) e (p, q, same, clear) =
+    delegate_tells (Ok (range, window)) e (p, q, same, clear) =
         let to : DelegatesTo c item range window =
         record { delegate_bit_lem = bit; range_read = p; window_read = ap reading (sym window_delegates) ∙ q; same_space = same } in
         cases (eqb filled_by 0)
         (λ (t : eqb filled_by 0 ≡ true).
-        let is_null : (outcome s c item).received ≡ NullItem NothingFilled = received_by_filled range window to ∙ (rw t) in
+        let is_null : (outcome s c item).received ≡ Err NothingFilled = received_by_filled range window to ∙ (rw t) in
         subst Tells (sym is_null)
         (record {
           holds = (bit, λ other_range other_window other_to offset l due. some_filled other_range other_window other_to offset l due (eqb-true filled_by 0 t));
           none_lower = clear;
         }))
         (λ (f : eqb filled_by 0 ≡ false).
-        let is_shown : (outcome s c item).received ≡ Shows (destination_range range window to) = received_by_filled range window to ∙ (rw f) in
+        let is_shown : (outcome s c item).received ≡ Ok (destination_range range window to) = received_by_filled range window to ∙ (rw f) in
         let some_fill : Clear 5 =
         clear_next NothingFilled clear (λ cause. eqb-false filled_by 0 f (none_filled range window to (cause.1 range window to))) in
         subst Tells (sym is_shown) (nothing_holds (clear_next TranslationBroke some_fill (λ cause. omega (arith, cause.0)))))
@@ -230,20 +227,20 @@ module _ (s : State) (c : Call) (item : ℕ) where
     translate_tells : (match : Match) → matched (reading (first_word c item)) (reading (window_word c item)) ≡ match → MatchTells match →
         Tells (outcome s c item).received
     unfolding item_of translate_item
-    translate_tells (Neither reason) e tells =
-        let there : matched (reading (first_word c item)) (reading (word c.target 1)) ≡ Neither reason = rw window_translates at e in
-        let is_null : (outcome s c item).received ≡ NullItem reason = rw (ne_eqb (delegate_bit (second_word c item)) 1 (λ one. omega arith), there) in
+    translate_tells (Err reason) e tells =
+        let there : matched (reading (first_word c item)) (reading (word c.target 1)) ≡ Err reason = rw window_translates at e in
+        let is_null : (outcome s c item).received ≡ Err reason = rw (ne_eqb (delegate_bit (second_word c item)) 1 (λ one. omega arith), there) in
         subst Tells (sym is_null) tells
-    translate_tells (Both range window) e (p, q, same, clear) =
+    translate_tells (Ok (range, window)) e (p, q, same, clear) =
         let to : TranslatesTo c item range window =
         record { translate_bit = bit; range_read = p; window_read = ap reading (sym window_translates) ∙ q; same_space = same } in
         let not_filling : Clear 5 = clear_next NothingFilled clear (λ cause. omega (arith, cause.0)) in
         go (translated_item s c item range window).received refl to not_filling
       where
         go : (received : Received) → (translated_item s c item range window).received ≡ received → TranslatesTo c item range window → Clear 5 → Tells (outcome s c item).received
-        go (NullItem reason) r to not_filling =
+        go (Err reason) r to not_filling =
             let one = (rule_exact range window to small sound).one_reason reason r in
-            let is_null : (outcome s c item).received ≡ NullItem TranslationBroke = received_by_rule range window to ∙ r ∙ ap NullItem one in
+            let is_null : (outcome s c item).received ≡ Err TranslationBroke = received_by_rule range window to ∙ r ∙ ap Err one in
             subst Tells (sym is_null)
             (record {
               holds = (
@@ -253,7 +250,7 @@ module _ (s : State) (c : Call) (item : ℕ) where
               );
               none_lower = not_filling;
             })
-        go (Shows shown) r to not_filling =
+        go (Ok shown) r to not_filling =
             let unbroken : Cause s c item TranslationBroke → ⊥ =
             λ cause.
             let broke = (rule_exact range window to small sound).null_so.1 (cause.1 range window to) in
@@ -272,7 +269,7 @@ module _ (s : State) (c : Call) (item : ℕ) where
 
   -- the number beside the kind is that of the first reason that applies, and 0 where something is shown
   first_why : (received : Received) → Tells received → (reason : Reason) → (why_null received ≡ reason_number reason) ↔ FirstCause s c item reason
-  first_why (NullItem given) first reason = (
+  first_why (Err given) first reason = (
     (λ e. subst (FirstCause s c item) (same_reason given reason e) first),
     (λ other.
         cases (ltb (reason_number given) (reason_number reason))
@@ -285,11 +282,11 @@ module _ (s : State) (c : Call) (item : ℕ) where
         (λ (g : ltb (reason_number reason) (reason_number given) ≡ false).
         omega (arith, ltb-false (reason_number given) (reason_number reason) f, ltb-false (reason_number reason) (reason_number given) g)))),
   )
-  first_why (Shows range) none reason = ((λ e. absurd (omega (arith, reason_some reason))), (λ first. absurd (none reason first.holds)))
+  first_why (Ok range) none reason = ((λ e. absurd (omega (arith, reason_some reason))), (λ first. absurd (none reason first.holds)))
 
 shown_why : (received : Received) → (why_null received ≡ 0) ↔ (received_word received ≡ 0 → ⊥)
-shown_why (NullItem reason) = ((λ e. absurd (omega (arith, reason_some reason))), (λ some. absurd (some refl)))
-shown_why (Shows range) = ((λ e null. omega arith), (λ some. refl))
+shown_why (Err reason) = ((λ e. absurd (omega (arith, reason_some reason))), (λ some. absurd (some refl)))
+shown_why (Ok range) = ((λ e null. omega arith), (λ some. refl))
 
 -- the second word that is received
 pub reason_given : (s : State) (c : Call) (item shown second : ℕ) → caller_domain s c < domains → sound_state (before s c item 0).state ≡ true →

@@ -1,9 +1,9 @@
 -- A transfer looks at places alone: whatever the objects are, its items come to the same.
+use Rattle.std.specs.Prelude.{Ok, Err}
 use Prim.Native.Nat.{ℕ, zero, suc}
 use mathlib.Core.Path.{◌≡◌, refl}
 use mathlib.Core.List.{List}
-use Rattle.descriptor.specs.declared.Match.{Match}
-use Rattle.descriptor.specs.declared.Match.TheVariants.{Both, Neither}
+use Rattle.descriptor.specs.Descriptors.{Match}
 use Rattle.interface.specs.Basics.{word}
 use Rattle.interface.specs.Places.{Cap, State}
 use Rattle.interface.specs.RangeDescriptors.{reading, matched}
@@ -42,15 +42,15 @@ module _ (objects others : ℕ → ℕ → ℕ) where
   delegated_anywhere : (caps : ℕ → Cap) (sender receiver second : ℕ) (match : Match) → MatchProper match →
       delegate_item (state_of caps objects) sender receiver second match ≡ delegate_item (state_of caps others) sender receiver second match
   unfolding delegate_item
-  delegated_anywhere caps sender receiver second (Neither reason) p = refl
-  delegated_anywhere caps sender receiver second (Both item window) p =
+  delegated_anywhere caps sender receiver second (Err reason) p = refl
+  delegated_anywhere caps sender receiver second (Ok (item, window)) p =
       rw (filled_anywhere (delegate_gives AnyGive (state_of caps objects) sender receiver second item window p (λ place source own from at to. tt)) caps)
 
   translated_anywhere : (caps : ℕ → Cap) (sender receiver : ℕ) (match : Match) →
       translate_item (state_of caps objects) sender receiver match ≡ translate_item (state_of caps others) sender receiver match
   unfolding translate_item
-  translated_anywhere caps sender receiver (Neither reason) = refl
-  translated_anywhere caps sender receiver (Both item window) = refl
+  translated_anywhere caps sender receiver (Err reason) = refl
+  translated_anywhere caps sender receiver (Ok (item, window)) = refl
 
   item_anywhere : (caps : ℕ → Cap) (sender receiver : ℕ) (source target : List ℕ) (i : ℕ) →
       item_of (state_of caps objects) sender receiver source target i ≡ item_of (state_of caps others) sender receiver source target i

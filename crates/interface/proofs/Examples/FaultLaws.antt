@@ -10,8 +10,8 @@ use lib.ListN.{take, drop}
 use borrow.Author.Tests.{leb-true, lt-ltb, ltb-true, ltb-false}
 use Rattle.words.specs.Sizes.{places, records}
 use Rattle.reply.specs.declared.Fault.{Fault}
-use Rattle.reply.specs.declared.Fault.TheVariants.{NoFault, AtRecord, AtPlace}
-use Rattle.std.specs.Prelude.{if◌then◌else◌}
+use Rattle.reply.specs.declared.Fault.TheVariants.{AtRecord, AtPlace}
+use Rattle.std.specs.Prelude.{if◌then◌else◌, Option, Some, None}
 use Rattle.interface.specs.Basics.{lowest}
 use Rattle.interface.specs.Places.{Cap, State, live}
 use Rattle.interface.specs.Boot.{boot}
@@ -26,20 +26,20 @@ abbrev at_boot : Sound boot
 at_boot = sound_facts boot boot_sound
 
 -- the first fault of a state's records, whatever its places
-unfoldable pub record_fault : State → List Rule → Fault
-record_fault s [] = NoFault
+unfoldable pub record_fault : State → List Rule → Option Fault
+record_fault s [] = None
 record_fault s (rule ∷ rules) =
     let r = lowest records (λ i. not (rule.record_keeps_lem s i)) in
     let later = record_fault s rules in
-    if ltb r records then AtRecord rule.number r else later
+    if ltb r records then Some (AtRecord rule.number r) else later
 
 abbrev PlacesKeep : State → List Rule → Type 0
 PlacesKeep s [] = Unit {0}
 PlacesKeep s (rule ∷ rules) = OfPlaces (rule.place_keeps_lem s) × PlacesKeep s rules
 
 -- where the places keep some rules, a fault of the records by these comes first
-record_first : (s : State) (rules more : List Rule) → PlacesKeep s rules → (number r : ℕ) → record_fault s rules ≡ AtRecord number r →
-    first_fault s (rules ++ more) ≡ AtRecord number r
+record_first : (s : State) (rules more : List Rule) → PlacesKeep s rules → (number r : ℕ) → record_fault s rules ≡ Some (AtRecord number r) →
+    first_fault s (rules ++ more) ≡ Some (AtRecord number r)
 unfolding first_fault record_fault
 record_first s [] more kept number r h = let z : ◌≡◌ {A = ℕ} 0 1 = cc in absurd (omega arith)
 record_first s (rule ∷ rules) more kept number r h =
@@ -52,20 +52,20 @@ record_first s (rule ∷ rules) more kept number r h =
 abbrev pub record_rules : List Rule
 record_rules = take 8 rules_of_damage
 
-pub record_fault_lem : (objects : ℕ → ℕ → ℕ) (number r : ℕ) → record_fault (record { caps = boot.caps; objects = objects }) record_rules ≡ AtRecord number r →
-    first_fault (record { caps = boot.caps; objects = objects }) rules_of_damage ≡ AtRecord number r
+pub record_fault_lem : (objects : ℕ → ℕ → ℕ) (number r : ℕ) → record_fault (record { caps = boot.caps; objects = objects }) record_rules ≡ Some (AtRecord number r) →
+    first_fault (record { caps = boot.caps; objects = objects }) rules_of_damage ≡ Some (AtRecord number r)
 unfolding fixed_place
 record_fault_lem objects =
     record_first (record { caps = boot.caps; objects = objects }) record_rules (drop 8 rules_of_damage)
     (at_boot.fixed_places, (trivial, (trivial, (trivial, (trivial, (trivial, (trivial, (trivial, tt))))))))
 
 -- the first fault of as many places as `size` says from `first` on, whatever the records
-unfoldable pub place_fault : ℕ → ℕ → State → List Rule → Fault
-place_fault first size s [] = NoFault
+unfoldable pub place_fault : ℕ → ℕ → State → List Rule → Option Fault
+place_fault first size s [] = None
 place_fault first size s (rule ∷ rules) =
     let k = lowest size (λ i. not (rule.place_keeps_lem s (first + i))) in
     let later = place_fault first size s rules in
-    if ltb k size then AtPlace rule.number (first + k) else later
+    if ltb k size then Some (AtPlace rule.number (first + k)) else later
 
 module _ (first size : ℕ) (fit : first + size ≤ places) where
   -- what the other places tell of a test

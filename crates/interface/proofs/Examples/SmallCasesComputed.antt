@@ -1,11 +1,12 @@
 -- The small cases, by computation.
+use Rattle.std.specs.Prelude.{Some, None}
 use Prim.Native.Nat.{ℕ, ◌+◌, ◌≤◌}
 use mathlib.Core.Path.{◌≡◌, refl, ◌∙◌}
 use mathlib.Core.Bool.{true, false, ◌||◌}
 use mathlib.Core.List.{[], ◌∷◌}
 use native.Mathlib.Omega.{arith}
 use Rattle.words.specs.Sizes.{places}
-use Rattle.reply.specs.declared.Fault.TheVariants.{NoFault, AtRecord}
+use Rattle.reply.specs.declared.Fault.TheVariants.{AtRecord}
 use Rattle.interface.specs.Basics.{put, listed, lowest}
 use Rattle.interface.specs.Places.{Cap}
 use Rattle.interface.specs.Boot.{boot}
@@ -45,7 +46,7 @@ line_changed : (delegations : ℕ) → 384 + delegations ≤ places → fault_of
 line_changed delegations fit = place_fault_lem (deep_line delegations).caps 384 delegations fit (λ p f. rw f) refl
 
 -- an EC with the greatest event base is no damage
-ec_changed : fault_of (record_changed boot 31 (2 ∷ 1 ∷ 0 ∷ 255 ∷ 0 ∷ [])) ≡ NoFault
+ec_changed : fault_of (record_changed boot 31 (2 ∷ 1 ∷ 0 ∷ 255 ∷ 0 ∷ [])) ≡ None
 unfolding damage_rules boot_tables_lem put sound_state
 ec_changed =
     kept_none (record_changed boot 31 (2 ∷ 1 ∷ 0 ∷ 255 ∷ 0 ∷ [])) rules_of_damage
@@ -61,11 +62,11 @@ damage_cases_lem =
     (two_changed 446 2 _ (omega arith) refl refl 447 refl ∙ refl) and (line_changed 64 (omega arith) ∙ refl) and (line_changed 63 (omega arith) ∙ refl) and tt
 
 -- a record that changed comes before places that did
-record_before : fault_of (records_changed (places_changed 9 11 (record { resource = 9; permissions = 1; parent = 0; depth = 0 })) 2 3) ≡ AtRecord 2 2
+record_before : fault_of (records_changed (places_changed 9 11 (record { resource = 9; permissions = 1; parent = 0; depth = 0 })) 2 3) ≡ Some (AtRecord 2 2)
 unfolding damage_rules boot_tables_lem put lowest first_fault
 record_before = refl
 
-boot_faultless : fault_of boot ≡ NoFault
+boot_faultless : fault_of boot ≡ None
 unfolding sound_state
 boot_faultless = kept_none boot rules_of_damage boot_sound
 

@@ -12,8 +12,7 @@ use Rattle.words.specs.Permissions.{revoked}
 use Rattle.words.proofs.BitLaws.{revoked_ones}
 use Rattle.words.proofs.PlaceLaws.{made_so}
 use Rattle.descriptor.specs.declared.Reading.TheVariants.{Good}
-use Rattle.reply.specs.declared.Reply.TheVariants.{Success}
-use Rattle.std.specs.Prelude.{if◌then◌else◌}
+use Rattle.std.specs.Prelude.{if◌then◌else◌, Ok}
 use Rattle.interface.specs.Basics.{any}
 use Rattle.interface.specs.Places.{State, Tables, live, nothing, domain_word, cap_at, place_table, object_table, tables_of}
 use Rattle.interface.specs.Damage.{is_ec, sound_state}
@@ -140,7 +139,7 @@ module _ (h : History) (valid : Valid h) (sound : Sound (told h)) where
       gather_same places (below (told h).caps place 1) (heir h place) (λ q b. below_heir h valid place one.0 one.1 q)
 
   census_of_lem : (place : ℕ) → place < places → live ((told h).caps place) ≡ true → (list : List ℕ) → length (heirs h place) ≤ length list →
-      counted (told h) place list ≡ record { reply = Success (length (heirs h place)); list = heirs h place ++ drop (length (heirs h place)) list }
+      counted (told h) place list ≡ record { reply = Ok (length (heirs h place)); list = heirs h place ++ drop (length (heirs h place)) list }
   census_of_lem place l t list enough = counted_found (told h) place (heirs h place) list l t (found_heirs place t) enough
 
   module _ (place : ℕ) (c : Call) (revokes : RevokesBelow (told h) place c) where
@@ -156,7 +155,7 @@ module _ (h : History) (valid : Valid h) (sound : Sound (told h)) where
         let follows = cut_follows h valid whole_mask place 1 false in
         subst Ends follows.0 (told_ends (note (cut whole_mask place 1 false) h) follows.1)
 
-    reply_of_lem : hypercall_reply (tables_of (told h)) c ≡ Success 0
+    reply_of_lem : hypercall_reply (tables_of (told h)) c ≡ Ok 0
     reply_of_lem = ap reply_of (judged_shown (told h) (told_ends h valid) c ∙ granted)
 
     state_of_lem : after (told h) c ≡ revoked_state
@@ -186,7 +185,7 @@ module _ (h : History) (valid : Valid h) (sound : Sound (told h)) where
         rw (reached, gone)
 
     revoke_of : live ((told h).caps place) ≡ true →
-        (hypercall_reply (tables_of (told h)) c ≡ Success 0) ×
+        (hypercall_reply (tables_of (told h)) c ≡ Ok 0) ×
         ((other : ℕ) → other < places →
         cap_at (hypercall_tables (tables_of (told h)) c).places other ≡ (if heir h place other then nothing else cap_at (place_table (told h)) other)) ×
         ((hypercall_tables (tables_of (told h)) c).objects ≡ object_table (told h)) ×

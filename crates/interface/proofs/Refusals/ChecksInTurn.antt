@@ -7,10 +7,10 @@ use mathlib.Core.List.{List, [], ◌∷◌}
 use native.Mathlib.Omega.{arith}
 use lib.Dec.{eqb, leb, ltb}
 use borrow.Author.Tests.{ltb-true, ltb-false, leb-true, leb-false, eqb-true, eqb-false, not-true, not-false}
-use Rattle.reply.specs.Replies.{status_of}
-use Rattle.reply.specs.declared.Reply.{Reply}
-use Rattle.reply.specs.declared.Reply.TheVariants.{Success, ComTim, BadCap, BadPar, BadCpu, NoRoom}
-use Rattle.std.specs.Prelude.{if◌then◌else◌}
+use Rattle.reply.specs.Replies.{status_of, Reply}
+use Rattle.reply.specs.declared.Refusal.{Refusal}
+use Rattle.reply.specs.declared.Refusal.TheVariants.{ComTim, BadCap, BadPar, BadCpu, NoRoom}
+use Rattle.std.specs.Prelude.{if◌then◌else◌, Ok, Err}
 use Rattle.interface.specs.Basics.{member}
 use Rattle.interface.specs.Verdicts.{Verdict, require◌else◌then◌, reply_of}
 use Rattle.interface.proofs.Basics.BoolLaws.{cases, not_both, and_left, and_right, or_none_left, or_none_right, either_way}
@@ -80,20 +80,20 @@ decides_both {one} {other} false b d e = record { holds = λ h. absurd (false≢
 -- the refusal of a status, of those that a call's own checks have
 abbrev pub refusal_of : ℕ → Reply
 refusal_of status =
-    if eqb status 1 then ComTim else if eqb status 4 then BadCap else if eqb status 5 then BadPar else if eqb status 7 then BadCpu else NoRoom
+    Err (if eqb status 1 then ComTim else if eqb status 4 then BadCap else if eqb status 5 then BadPar else if eqb status 7 then BadCpu else NoRoom)
 
 -- a reply is one of them
-abbrev pub Refusal : Reply → Type 0
-Refusal reply = refusal_of (status_of reply) ≡ reply
+abbrev pub IsRefusal : Reply → Type 0
+IsRefusal reply = refusal_of (status_of reply) ≡ reply
 
 -- two refusals of one status are the same, and SUCCESS is none
-pub same_refusal : (a b : Reply) → Refusal a → Refusal b → eqb (status_of a) (status_of b) ≡ true → a ≡ b
+pub same_refusal : (a b : Reply) → IsRefusal a → IsRefusal b → eqb (status_of a) (status_of b) ≡ true → a ≡ b
 same_refusal a b ra rb h = sym ra ∙ ap refusal_of (eqb-true (status_of a) (status_of b) h) ∙ rb
 
-pub success_no_refusal : (reply : Reply) (answer : ℕ) → Refusal reply → reply ≡ Success answer → ⊥
+pub success_no_refusal : (reply : Reply) (answer : ℕ) → IsRefusal reply → reply ≡ Ok answer → ⊥
 success_no_refusal reply answer r e =
     let z : status_of reply ≡ 0 = ap status_of e in
-    let n : NoRoom ≡ reply = rw z at r in
+    let n : Err NoRoom ≡ reply = rw z at r in
     omega (arith, ap status_of n)
 
 -- a check: a test that decides a fact, and the refusal where it fails
@@ -102,29 +102,29 @@ pub record Check : Type 1 where
   pub fact : Type 0
   pub contrary : Type 0
   pub decides : Decides test fact contrary
-  pub reply : Reply
-  pub is_refusal : Refusal reply
+  pub refusal : Refusal
+  pub is_refusal : IsRefusal (Err refusal)
 
-abbrev pub checked : {test : Bool} {fact contrary : Type 0} → Decides test fact contrary → (reply : Reply) → Refusal reply → Check
-checked {test} {fact} {contrary} decides reply is =
-    record { test = test; fact = fact; contrary = contrary; decides = decides; reply = reply; is_refusal = is }
+abbrev pub checked : {test : Bool} {fact contrary : Type 0} → Decides test fact contrary → (refusal : Refusal) → IsRefusal (Err refusal) → Check
+checked {test} {fact} {contrary} decides refusal is =
+    record { test = test; fact = fact; contrary = contrary; decides = decides; refusal = refusal; is_refusal = is }
 
 -- the reply of checks in turn: the refusal of the first that fails, or else the last reply
 abbrev pub in_turn : List Check → Reply → Reply
 in_turn [] last = last
-in_turn (check ∷ checks) last = cond check.test (in_turn checks last) check.reply
+in_turn (check ∷ checks) last = cond check.test (in_turn checks last) (Err check.refusal)
 
 -- whether some check has a refusal
 abbrev pub has_refusal : List Check → Reply → Bool
 has_refusal [] reply = false
-has_refusal (check ∷ checks) reply = eqb (status_of check.reply) (status_of reply) || has_refusal checks reply
+has_refusal (check ∷ checks) reply = eqb (status_of (Err check.refusal)) (status_of reply) || has_refusal checks reply
 
 -- why checks in turn give a refusal: a check that has it fails, and those before it hold
 abbrev pub Cause : List Check → Reply → Type 0
 Cause [] reply = ⊥
 Cause (check ∷ checks) reply =
     cond
-    (eqb (status_of check.reply) (status_of reply))
+    (eqb (status_of (Err check.refusal)) (status_of reply))
     (cond (has_refusal checks reply) (check.contrary ⊎ (check.fact × Cause checks reply)) check.contrary)
     (cond (has_refusal checks reply) (check.fact × Cause checks reply) ⊥)
 
@@ -162,21 +162,21 @@ module _ (last refusal : Reply) (apart : last ≡ refusal → ⊥) where
   never_given : (checks : List Check) → has_refusal checks refusal ≡ false → in_turn checks last ≡ refusal → ⊥
   never_given [] h = apart
   never_given (check ∷ checks) h =
-      let same = eqb (status_of check.reply) (status_of refusal) in
-      neither_reply check.test (in_turn checks last) check.reply refusal (never_given checks (or_none_right same (has_refusal checks refusal) h))
-      (λ e. eqb-false (status_of check.reply) (status_of refusal) (or_none_left same (has_refusal checks refusal) h) (ap status_of e))
+      let same = eqb (status_of (Err check.refusal)) (status_of refusal) in
+      neither_reply check.test (in_turn checks last) (Err check.refusal) refusal (never_given checks (or_none_right same (has_refusal checks refusal) h))
+      (λ e. eqb-false (status_of (Err check.refusal)) (status_of refusal) (or_none_left same (has_refusal checks refusal) h) (ap status_of e))
 
   -- checks in turn give a refusal exactly where it has a cause
-  pub caused_exactly : Refusal refusal → (checks : List Check) → (in_turn checks last ≡ refusal) ↔ Cause checks refusal
+  pub caused_exactly : IsRefusal refusal → (checks : List Check) → (in_turn checks last ≡ refusal) ↔ Cause checks refusal
   caused_exactly is [] = (apart, λ x. absurd x)
   caused_exactly is (check ∷ checks) =
-      one_check check.test (eqb (status_of check.reply) (status_of refusal)) (has_refusal checks refusal) check.fact check.contrary (Cause checks refusal)
-      check.reply (in_turn checks last) refusal check.decides (same_refusal check.reply refusal check.is_refusal is)
-      (λ h e. eqb-false (status_of check.reply) (status_of refusal) h (ap status_of e)) (never_given checks) (caused_exactly is checks)
+      one_check check.test (eqb (status_of (Err check.refusal)) (status_of refusal)) (has_refusal checks refusal) check.fact check.contrary (Cause checks refusal)
+      (Err check.refusal) (in_turn checks last) refusal check.decides (same_refusal (Err check.refusal) refusal check.is_refusal is)
+      (λ h e. eqb-false (status_of (Err check.refusal)) (status_of refusal) h (ap status_of e)) (never_given checks) (caused_exactly is checks)
 
 -- what holds of no refusal holds of the reply of checks in turn exactly where each holds, and it holds of the last reply
-module _ (P : Reply → Type 0) (none : (reply : Reply) → Refusal reply → P reply → ⊥) (last : Reply) where
-  one_passed : (test : Bool) (fact contrary : Type 0) (reply next : Reply) → Decides test fact contrary → Refusal reply → P (cond test next reply) → fact × P next
+module _ (P : Reply → Type 0) (none : (reply : Reply) → IsRefusal reply → P reply → ⊥) (last : Reply) where
+  one_passed : (test : Bool) (fact contrary : Type 0) (reply next : Reply) → Decides test fact contrary → IsRefusal reply → P (cond test next reply) → fact × P next
   one_passed true fact contrary reply next d r p = (d.holds refl, p)
   one_passed false fact contrary reply next d r p = absurd (none reply r p)
 
@@ -186,46 +186,46 @@ module _ (P : Reply → Type 0) (none : (reply : Reply) → Refusal reply → P 
 
   pub each_passed : (checks : List Check) → P (in_turn checks last) → Passed checks × P last
   each_passed [] p = (tt, p)
-  each_passed (check ∷ []) p = one_passed check.test check.fact check.contrary check.reply last check.decides check.is_refusal p
+  each_passed (check ∷ []) p = one_passed check.test check.fact check.contrary (Err check.refusal) last check.decides check.is_refusal p
   each_passed (check ∷ next ∷ checks) p =
-      let here = one_passed check.test check.fact check.contrary check.reply (in_turn (next ∷ checks) last) check.decides check.is_refusal p in
+      let here = one_passed check.test check.fact check.contrary (Err check.refusal) (in_turn (next ∷ checks) last) check.decides check.is_refusal p in
       let later = each_passed (next ∷ checks) here.1 in
       ((here.0, later.0), later.1)
 
   pub each_passes : (checks : List Check) → Passed checks → P last → P (in_turn checks last)
   each_passes [] f p = p
-  each_passes (check ∷ []) f p = one_passes check.test check.fact check.contrary check.reply last check.decides f p
+  each_passes (check ∷ []) f p = one_passes check.test check.fact check.contrary (Err check.refusal) last check.decides f p
   each_passes (check ∷ next ∷ checks) f p =
-      one_passes check.test check.fact check.contrary check.reply (in_turn (next ∷ checks) last) check.decides f.0
+      one_passes check.test check.fact check.contrary (Err check.refusal) (in_turn (next ∷ checks) last) check.decides f.0
       (each_passes (next ∷ checks) f.1 p)
 
 -- whether the status of each check is among some
 abbrev pub all_among : List ℕ → List Check → Bool
 all_among statuses [] = true
-all_among statuses (check ∷ checks) = member (status_of check.reply) statuses && all_among statuses checks
+all_among statuses (check ∷ checks) = member (status_of (Err check.refusal)) statuses && all_among statuses checks
 
 -- then so is that of the reply
 pub status_among : (statuses : List ℕ) (last : Reply) → member (status_of last) statuses ≡ true → (checks : List Check) → all_among statuses checks ≡ true →
     member (status_of (in_turn checks last)) statuses ≡ true
 status_among statuses last h [] all = h
 status_among statuses last h (check ∷ checks) all =
-    let first = member (status_of check.reply) statuses in
-    either_way (λ (reply : Reply). member (status_of reply) statuses ≡ true) check.test (in_turn checks last) check.reply
+    let first = member (status_of (Err check.refusal)) statuses in
+    either_way (λ (reply : Reply). member (status_of reply) statuses ≡ true) check.test (in_turn checks last) (Err check.refusal)
     (status_among statuses last h checks (and_right first (all_among statuses checks) all)) (and_left first (all_among statuses checks) all)
 
 -- a verdict of checks in turn, and its reply
 abbrev pub verdict_in_turn : List Check → Verdict → Verdict
 verdict_in_turn [] last = last
-verdict_in_turn (check ∷ checks) last = require check.test else check.reply then verdict_in_turn checks last
+verdict_in_turn (check ∷ checks) last = require check.test else check.refusal then verdict_in_turn checks last
 
-reply_required : (test : Bool) (reply : Reply) (next : Verdict) → reply_of (require test else reply then next) ≡ cond test (reply_of next) reply
-reply_required true reply next = refl
-reply_required false reply next = refl
+reply_required : (test : Bool) (refusal : Refusal) (next : Verdict) → reply_of (require test else refusal then next) ≡ cond test (reply_of next) (Err refusal)
+reply_required true refusal next = refl
+reply_required false refusal next = refl
 
 pub reply_in_turn : (checks : List Check) (last : Verdict) → reply_of (verdict_in_turn checks last) ≡ in_turn checks (reply_of last)
 reply_in_turn [] last = refl
 reply_in_turn (check ∷ checks) last =
-    reply_required check.test check.reply (verdict_in_turn checks last) ∙ ap (λ (reply : Reply). cond check.test reply check.reply) (reply_in_turn checks last)
+    reply_required check.test check.refusal (verdict_in_turn checks last) ∙ ap (λ (reply : Reply). cond check.test reply (Err check.refusal)) (reply_in_turn checks last)
 
 -- where each check is passed the last verdict stands
 pub last_stands : (checks : List Check) (last : Verdict) → Passed checks → verdict_in_turn checks last ≡ last

@@ -1,4 +1,5 @@
 -- Each refusal of a creation has exactly its cause.
+use Rattle.std.specs.Prelude.{Err, Ok}
 use Prim.Native.Nat.{ℕ, ◌≤◌, ◌<◌}
 use mathlib.Core.Path.{◌≡◌, refl, ap, ◌∙◌}
 use mathlib.Core.Logic.{◌↔◌, ◌⊎◌, inl, inr}
@@ -11,9 +12,8 @@ use Rattle.words.specs.Sizes.{domains, object, records}
 use Rattle.descriptor.specs.declared.Range.{Range}
 use Rattle.descriptor.specs.declared.Reading.{Reading}
 use Rattle.descriptor.specs.declared.Reading.TheVariants.{Null, Malformed, Good}
-use Rattle.reply.specs.Replies.{status_of}
-use Rattle.reply.specs.declared.Reply.{Reply}
-use Rattle.reply.specs.declared.Reply.TheVariants.{Success, BadCap, BadPar, BadCpu, NoRoom}
+use Rattle.reply.specs.Replies.{status_of, Reply}
+use Rattle.reply.specs.declared.Refusal.TheVariants.{BadCap, BadPar, BadCpu, NoRoom}
 use Rattle.interface.specs.Basics.{any, member}
 use Rattle.interface.specs.Places.{State, live, PD, EC, SC, PT, SM, create_bit, bind_sc_bit, bind_pt_bit, permitted}
 use Rattle.interface.specs.Boot.{cpus}
@@ -29,7 +29,7 @@ use Rattle.interface.proofs.Sound.Soundness.{Sound, sound_facts}
 use Rattle.interface.proofs.Sound.SoundObjects.{free_there, used_below_free}
 use Rattle.interface.proofs.Sound.SoundFacts.{home, numbered_home}
 use Rattle.interface.proofs.Sound.CreationsFit.{steps_of}
-use Rattle.interface.proofs.Refusals.ChecksInTurn.{Decides, decided, decides_other, decides_fact, decides_contrary, decides_both, Refusal, Check, checked, Cause, Passed, all_among, verdict_in_turn}
+use Rattle.interface.proofs.Refusals.ChecksInTurn.{Decides, decided, decides_other, decides_fact, decides_contrary, decides_both, IsRefusal, Check, checked, Cause, Passed, all_among, verdict_in_turn}
 use Rattle.interface.proofs.Refusals.RefusalLaws.{by_rule, refused_exactly, granted_exactly, passed_grants, no_other, decides_holding}
 
 -- a creation asks for its capabilities in one, then for the CPU, the parameters and room
@@ -140,13 +140,13 @@ abbrev Checked : State → Call → List Check → Type 0
 Checked s c checks = (effects : List Effect) × (rules s c ≡ verdict_in_turn checks (grant 0 effects))
 
 module _ (s : State) (c : Call) (checks : List Check) (is : Checked s c checks) where
-  creation_refused : (refusal : Reply) → Refusal refusal → (reply_of (rules s c) ≡ refusal) ↔ Cause checks refusal
+  creation_refused : (refusal : Reply) → IsRefusal refusal → (reply_of (rules s c) ≡ refusal) ↔ Cause checks refusal
   creation_refused = refused_exactly s c checks (grant 0 is.0) 0 refl is.1
 
-  creation_granted : (reply_of (rules s c) ≡ Success 0) ↔ Passed checks
+  creation_granted : (reply_of (rules s c) ≡ Ok 0) ↔ Passed checks
   creation_granted = granted_exactly s c checks (grant 0 is.0) 0 refl is.1
 
-  creation_grants : reply_of (rules s c) ≡ Success 0 → Grants s c
+  creation_grants : reply_of (rules s c) ≡ Ok 0 → Grants s c
   creation_grants g = (is.0, passed_grants s c checks (grant 0 is.0) 0 refl is.1 g)
 
   creation_status : (statuses : List ℕ) → member 0 statuses ≡ true → all_among statuses checks ≡ true → member (status_of (reply_of (rules s c))) statuses ≡ true
@@ -163,7 +163,7 @@ module _ (s : State) (c : Call) (sound : sound_state s ≡ true) (e : is_ec s c.
   unfolding hypercall create_pd
   pd_checked n = (_, by_rule s c CREATE_PD create_pd refl sound e n ∙ creation_asks s c _)
 
-  pub pd_grants : c.number ≡ CREATE_PD → reply_of (rules s c) ≡ Success 0 → Grants s c
+  pub pd_grants : c.number ≡ CREATE_PD → reply_of (rules s c) ≡ Ok 0 → Grants s c
   pd_grants n = creation_grants s c pd_checks (pd_checked n)
 
   abbrev ec_checks : List Check
@@ -175,7 +175,7 @@ module _ (s : State) (c : Call) (sound : sound_state s ≡ true) (e : is_ec s c.
   unfolding hypercall create_ec
   ec_checked n = (_, by_rule s c CREATE_EC create_ec refl sound e n ∙ creation_asks s c _)
 
-  pub ec_grants : c.number ≡ CREATE_EC → reply_of (rules s c) ≡ Success 0 → Grants s c
+  pub ec_grants : c.number ≡ CREATE_EC → reply_of (rules s c) ≡ Ok 0 → Grants s c
   ec_grants n = creation_grants s c ec_checks (ec_checked n)
 
   abbrev sc_checks : List Check
@@ -187,7 +187,7 @@ module _ (s : State) (c : Call) (sound : sound_state s ≡ true) (e : is_ec s c.
   unfolding hypercall create_sc
   sc_checked n = (_, by_rule s c CREATE_SC create_sc refl sound e n ∙ creation_asks s c _)
 
-  pub sc_grants : c.number ≡ CREATE_SC → reply_of (rules s c) ≡ Success 0 → Grants s c
+  pub sc_grants : c.number ≡ CREATE_SC → reply_of (rules s c) ≡ Ok 0 → Grants s c
   sc_grants n = creation_grants s c sc_checks (sc_checked n)
 
   abbrev pt_checks : List Check
@@ -198,7 +198,7 @@ module _ (s : State) (c : Call) (sound : sound_state s ≡ true) (e : is_ec s c.
   unfolding hypercall create_pt
   pt_checked n = (_, by_rule s c CREATE_PT create_pt refl sound e n ∙ creation_asks s c _)
 
-  pub pt_grants : c.number ≡ CREATE_PT → reply_of (rules s c) ≡ Success 0 → Grants s c
+  pub pt_grants : c.number ≡ CREATE_PT → reply_of (rules s c) ≡ Ok 0 → Grants s c
   pt_grants n = creation_grants s c pt_checks (pt_checked n)
 
   abbrev sm_checks : List Check
@@ -209,7 +209,7 @@ module _ (s : State) (c : Call) (sound : sound_state s ≡ true) (e : is_ec s c.
   unfolding hypercall create_sm
   sm_checked n = (_, by_rule s c CREATE_SM create_sm refl sound e n ∙ creation_asks s c _)
 
-  pub sm_grants : c.number ≡ CREATE_SM → reply_of (rules s c) ≡ Success 0 → Grants s c
+  pub sm_grants : c.number ≡ CREATE_SM → reply_of (rules s c) ≡ Ok 0 → Grants s c
   sm_grants n = creation_grants s c sm_checks (sm_checked n)
 
 pub creations_refused_exactly : CreationsRefusedExactly
@@ -218,39 +218,39 @@ creations_refused_exactly =
     record {
       create_pd_lem =
           record {
-            pd_bad_cap = λ s c sound e n. creation_refused s c (pd_checks s c sound e) (pd_checked s c sound e n) BadCap refl;
-            pd_bad_par = λ s c sound e n. creation_refused s c (pd_checks s c sound e) (pd_checked s c sound e n) BadPar refl;
-            pd_no_room = λ s c sound e n. creation_refused s c (pd_checks s c sound e) (pd_checked s c sound e n) NoRoom refl;
+            pd_bad_cap = λ s c sound e n. creation_refused s c (pd_checks s c sound e) (pd_checked s c sound e n) (Err BadCap) refl;
+            pd_bad_par = λ s c sound e n. creation_refused s c (pd_checks s c sound e) (pd_checked s c sound e n) (Err BadPar) refl;
+            pd_no_room = λ s c sound e n. creation_refused s c (pd_checks s c sound e) (pd_checked s c sound e n) (Err NoRoom) refl;
             pd_granted = λ s c sound e n. creation_granted s c (pd_checks s c sound e) (pd_checked s c sound e n);
             pd_no_other = λ s c sound e n. creation_status s c (pd_checks s c sound e) (pd_checked s c sound e n) (0 ∷ 4 ∷ 5 ∷ 16 ∷ []) refl refl;
           };
       create_ec_lem =
           record {
-            ec_bad_cap = λ s c sound e n. creation_refused s c (ec_checks s c sound e) (ec_checked s c sound e n) BadCap refl;
-            ec_bad_cpu = λ s c sound e n. creation_refused s c (ec_checks s c sound e) (ec_checked s c sound e n) BadCpu refl;
-            ec_no_room = λ s c sound e n. creation_refused s c (ec_checks s c sound e) (ec_checked s c sound e n) NoRoom refl;
+            ec_bad_cap = λ s c sound e n. creation_refused s c (ec_checks s c sound e) (ec_checked s c sound e n) (Err BadCap) refl;
+            ec_bad_cpu = λ s c sound e n. creation_refused s c (ec_checks s c sound e) (ec_checked s c sound e n) (Err BadCpu) refl;
+            ec_no_room = λ s c sound e n. creation_refused s c (ec_checks s c sound e) (ec_checked s c sound e n) (Err NoRoom) refl;
             ec_granted = λ s c sound e n. creation_granted s c (ec_checks s c sound e) (ec_checked s c sound e n);
             ec_no_other = λ s c sound e n. creation_status s c (ec_checks s c sound e) (ec_checked s c sound e n) (0 ∷ 4 ∷ 7 ∷ 16 ∷ []) refl refl;
           };
       create_sc_lem =
           record {
-            sc_bad_cap = λ s c sound e n. creation_refused s c (sc_checks s c sound e) (sc_checked s c sound e n) BadCap refl;
-            sc_bad_par = λ s c sound e n. creation_refused s c (sc_checks s c sound e) (sc_checked s c sound e n) BadPar refl;
-            sc_no_room = λ s c sound e n. creation_refused s c (sc_checks s c sound e) (sc_checked s c sound e n) NoRoom refl;
+            sc_bad_cap = λ s c sound e n. creation_refused s c (sc_checks s c sound e) (sc_checked s c sound e n) (Err BadCap) refl;
+            sc_bad_par = λ s c sound e n. creation_refused s c (sc_checks s c sound e) (sc_checked s c sound e n) (Err BadPar) refl;
+            sc_no_room = λ s c sound e n. creation_refused s c (sc_checks s c sound e) (sc_checked s c sound e n) (Err NoRoom) refl;
             sc_granted = λ s c sound e n. creation_granted s c (sc_checks s c sound e) (sc_checked s c sound e n);
             sc_no_other = λ s c sound e n. creation_status s c (sc_checks s c sound e) (sc_checked s c sound e n) (0 ∷ 4 ∷ 5 ∷ 16 ∷ []) refl refl;
           };
       create_pt_lem =
           record {
-            pt_bad_cap = λ s c sound e n. creation_refused s c (pt_checks s c sound e) (pt_checked s c sound e n) BadCap refl;
-            pt_no_room = λ s c sound e n. creation_refused s c (pt_checks s c sound e) (pt_checked s c sound e n) NoRoom refl;
+            pt_bad_cap = λ s c sound e n. creation_refused s c (pt_checks s c sound e) (pt_checked s c sound e n) (Err BadCap) refl;
+            pt_no_room = λ s c sound e n. creation_refused s c (pt_checks s c sound e) (pt_checked s c sound e n) (Err NoRoom) refl;
             pt_granted = λ s c sound e n. creation_granted s c (pt_checks s c sound e) (pt_checked s c sound e n);
             pt_no_other = λ s c sound e n. creation_status s c (pt_checks s c sound e) (pt_checked s c sound e n) (0 ∷ 4 ∷ 16 ∷ []) refl refl;
           };
       create_sm_lem =
           record {
-            sm_bad_cap = λ s c sound e n. creation_refused s c (sm_checks s c sound e) (sm_checked s c sound e n) BadCap refl;
-            sm_no_room = λ s c sound e n. creation_refused s c (sm_checks s c sound e) (sm_checked s c sound e n) NoRoom refl;
+            sm_bad_cap = λ s c sound e n. creation_refused s c (sm_checks s c sound e) (sm_checked s c sound e n) (Err BadCap) refl;
+            sm_no_room = λ s c sound e n. creation_refused s c (sm_checks s c sound e) (sm_checked s c sound e n) (Err NoRoom) refl;
             sm_granted = λ s c sound e n. creation_granted s c (sm_checks s c sound e) (sm_checked s c sound e n);
             sm_no_other = λ s c sound e n. creation_status s c (sm_checks s c sound e) (sm_checked s c sound e n) (0 ∷ 4 ∷ 16 ∷ []) refl refl;
           };

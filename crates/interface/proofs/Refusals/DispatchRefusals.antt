@@ -6,10 +6,10 @@ use mathlib.Core.Bool.{Bool, true, false, ◌||◌, true≢false, false≢true}
 use mathlib.Core.List.{List}
 use native.Mathlib.Omega.{arith}
 use lib.Dec.{eqb}
-use Rattle.reply.specs.Replies.{status_of}
-use Rattle.reply.specs.declared.Reply.{Reply}
-use Rattle.reply.specs.declared.Reply.TheVariants.{BadHyp, BadCaller}
-use Rattle.std.specs.Prelude.{if◌then◌else◌}
+use Rattle.reply.specs.declared.Refusal.{Refusal}
+use Rattle.reply.specs.Replies.{status_of, Reply}
+use Rattle.reply.specs.declared.Refusal.TheVariants.{BadHyp, BadCaller}
+use Rattle.std.specs.Prelude.{if◌then◌else◌, Err}
 use Rattle.interface.specs.Basics.{any, member}
 use Rattle.interface.specs.Places.{State}
 use Rattle.interface.specs.Damage.{sound_state, is_ec}
@@ -27,13 +27,13 @@ use Rattle.interface.proofs.Sound.SoundFacts.{ec_small, ec_kind, is_ec_lem}
 
 -- a verdict whose reply is neither BAD_HYP nor BAD_CALLER: a refusal with another reply, a grant, a delivery, and a choice between two such
 abbrev is_outer : Reply → Bool
-is_outer reply = eqb (status_of reply) (status_of BadHyp) || eqb (status_of reply) (status_of BadCaller)
+is_outer reply = eqb (status_of reply) (status_of (Err BadHyp)) || eqb (status_of reply) (status_of (Err BadCaller))
 
 record OwnReply (v : Verdict) : Type 0 where
   own : is_outer (reply_of v) ≡ false
 
-own_refusal : (reply : Reply) → is_outer reply ≡ false → OwnReply (refuse reply)
-own_refusal reply h = record { own = h }
+own_refusal : (refusal : Refusal) → is_outer (Err refusal) ≡ false → OwnReply (refuse refusal)
+own_refusal refusal h = record { own = h }
 
 own_grant : (answer : ℕ) (effects : List Effect) → OwnReply (grant answer effects)
 own_grant answer effects = record { own = refl }
@@ -80,7 +80,7 @@ module _ (s : State) (c : Call) where
     no_ec_lem : is_ec s c.caller ≡ false → NamesEc s c.caller → ⊥
     no_ec_lem f names = not_both (is_ec s c.caller) (is_ec_lem s c.caller names.0 names.1) f
 
-    hyp_exactly : (reply_of (rules s c) ≡ BadHyp) ↔ (member c.number built_numbers ≡ false)
+    hyp_exactly : (reply_of (rules s c) ≡ Err BadHyp) ↔ (member c.number built_numbers ≡ false)
     hyp_exactly = (
       λ e.
           cases (member c.number built_numbers)
@@ -92,7 +92,7 @@ module _ (s : State) (c : Call) where
       λ f. ap reply_of (unbuilt f),
     )
 
-    caller_exactly : (reply_of (rules s c) ≡ BadCaller) ↔ ((member c.number built_numbers ≡ true) × (NamesEc s c.caller → ⊥))
+    caller_exactly : (reply_of (rules s c) ≡ Err BadCaller) ↔ ((member c.number built_numbers ≡ true) × (NamesEc s c.caller → ⊥))
     caller_exactly = (
       λ e.
           cases (member c.number built_numbers)

@@ -10,12 +10,11 @@ use lib.ListN.{length}
 use borrow.Author.Tests.{ltb-true, ltb-false, lt-leb, eqb-true, eqb-false, not-false}
 use Rattle.words.specs.Fields.{greatest_word}
 use Rattle.words.specs.Sizes.{places}
-use Rattle.reply.specs.Replies.{status_of, answer_of}
+use Rattle.reply.specs.Replies.{status_of, answer_of, Reply}
 use Rattle.descriptor.specs.declared.Reading.{Reading}
 use Rattle.descriptor.specs.declared.Reading.TheVariants.{Null, Malformed, Good}
-use Rattle.reply.specs.declared.Reply.{Reply}
-use Rattle.reply.specs.declared.Reply.TheVariants.{Success, ComTim, BadCap, BadPar, NoRoom, Short}
-use Rattle.std.specs.Prelude.{if◌then◌else◌}
+use Rattle.reply.specs.declared.Refusal.TheVariants.{ComTim, BadCap, BadPar, NoRoom, Short}
+use Rattle.std.specs.Prelude.{if◌then◌else◌, Ok, Err}
 use Rattle.interface.specs.Basics.{put, put_from, any, member}
 use Rattle.interface.specs.Places.{State, Tables, live, shown, SM, count_word, object_in}
 use Rattle.interface.specs.Damage.{sound_state, sound, is_ec}
@@ -32,7 +31,7 @@ use Rattle.interface.proofs.Basics.BoolLaws.{cases, either_way}
 use Rattle.interface.proofs.Basics.PutLaws.{put_same, put_other}
 use Rattle.interface.proofs.Sound.Soundness.{sound_facts}
 use Rattle.interface.proofs.Tables.VerdictLaws.{after_verdict}
-use Rattle.interface.proofs.Refusals.ChecksInTurn.{Decides, decides_at_most, decides_below, decides_some, decides_inside, decides_contrary, decides_not, Refusal, success_no_refusal, Check, checked, in_turn, Cause, Passed, neither_reply, caused_exactly, each_passed, each_passes, status_among, verdict_in_turn, last_stands}
+use Rattle.interface.proofs.Refusals.ChecksInTurn.{Decides, decides_at_most, decides_below, decides_some, decides_inside, decides_contrary, decides_not, IsRefusal, success_no_refusal, Check, checked, in_turn, Cause, Passed, neither_reply, caused_exactly, each_passed, each_passes, status_among, verdict_in_turn, last_stands}
 use Rattle.interface.proofs.Refusals.MaskRefusals.{outside_fields, fields_outside}
 use Rattle.interface.proofs.Refusals.RefusalLaws.{by_rule, refused_exactly, granted_exactly, granted_somehow, no_other, decides_holding, passed_grants}
 
@@ -41,7 +40,7 @@ module _ (s : State) (c : Call) (sound : sound_state s ≡ true) (e : is_ec s c.
   abbrev counts : ℕ → Verdict
   counts value = grant 0 (count (object_in s (named_place s c)) value ∷ [])
 
-  beyond : 1 < c.second → reply_of (rules s c) ≡ BadPar
+  beyond : 1 < c.second → reply_of (rules s c) ≡ Err BadPar
   unfolding hypercall sm_ctrl
   beyond l = rw (by_rule s c SM_CTRL sm_ctrl refl sound e n, lt-leb c.second 1 l)
 
@@ -83,26 +82,26 @@ module _ (s : State) (c : Call) (sound : sound_state s ≡ true) (e : is_ec s c.
         places_stay = rw is;
       }
 
-  up_refused : c.second ≡ 0 → (refusal : Reply) → Refusal refusal → (reply_of (rules s c) ≡ refusal) ↔ Cause up_checks refusal
+  up_refused : c.second ≡ 0 → (refusal : Reply) → IsRefusal refusal → (reply_of (rules s c) ≡ refusal) ↔ Cause up_checks refusal
   up_refused z = refused_exactly s c up_checks _ 0 refl (up_checked z)
 
-  up_passed : c.second ≡ 0 → (reply_of (rules s c) ≡ Success 0) ↔ Passed up_checks
+  up_passed : c.second ≡ 0 → (reply_of (rules s c) ≡ Ok 0) ↔ Passed up_checks
   up_passed z = granted_exactly s c up_checks _ 0 refl (up_checked z)
 
-  up_becomes : c.second ≡ 0 → reply_of (rules s c) ≡ Success 0 → CountBecomes s c (semaphore_count s c + 1)
+  up_becomes : c.second ≡ 0 → reply_of (rules s c) ≡ Ok 0 → CountBecomes s c (semaphore_count s c + 1)
   up_becomes z g = count_becomes (semaphore_count s c + 1) (passed_grants s c up_checks _ 0 refl (up_checked z) g)
 
   up_status : c.second ≡ 0 → member (status_of (reply_of (rules s c))) (0 ∷ 4 ∷ 5 ∷ []) ≡ true
   unfolding member any
   up_status z = no_other s c up_checks _ 0 refl (up_checked z) (0 ∷ 4 ∷ 5 ∷ []) refl refl
 
-  down_refused : c.second ≡ 1 → (refusal : Reply) → Refusal refusal → (reply_of (rules s c) ≡ refusal) ↔ Cause down_checks refusal
+  down_refused : c.second ≡ 1 → (refusal : Reply) → IsRefusal refusal → (reply_of (rules s c) ≡ refusal) ↔ Cause down_checks refusal
   down_refused z = refused_exactly s c down_checks _ 0 refl (down_checked z)
 
-  down_passed : c.second ≡ 1 → (reply_of (rules s c) ≡ Success 0) ↔ Passed down_checks
+  down_passed : c.second ≡ 1 → (reply_of (rules s c) ≡ Ok 0) ↔ Passed down_checks
   down_passed z = granted_exactly s c down_checks _ 0 refl (down_checked z)
 
-  down_becomes : c.second ≡ 1 → reply_of (rules s c) ≡ Success 0 → CountBecomes s c (semaphore_count s c - 1)
+  down_becomes : c.second ≡ 1 → reply_of (rules s c) ≡ Ok 0 → CountBecomes s c (semaphore_count s c - 1)
   down_becomes z g = count_becomes (semaphore_count s c - 1) (passed_grants s c down_checks _ 0 refl (down_checked z) g)
 
   down_status : c.second ≡ 1 → member (status_of (reply_of (rules s c))) (0 ∷ 1 ∷ 4 ∷ []) ≡ true
@@ -113,13 +112,13 @@ pub sm_ctrl_refused_exactly : SmCtrlRefusedExactly
 sm_ctrl_refused_exactly =
     record {
       other_bad_par = beyond;
-      up_bad_cap = λ s c sound e n z. up_refused s c sound e n z BadCap refl;
-      up_bad_par = λ s c sound e n z. up_refused s c sound e n z BadPar refl;
+      up_bad_cap = λ s c sound e n z. up_refused s c sound e n z (Err BadCap) refl;
+      up_bad_par = λ s c sound e n z. up_refused s c sound e n z (Err BadPar) refl;
       up_granted = up_passed;
       up_counts = up_becomes;
       up_no_other = up_status;
-      down_bad_cap = λ s c sound e n z. down_refused s c sound e n z BadCap refl;
-      down_com_tim = λ s c sound e n z. down_refused s c sound e n z ComTim refl;
+      down_bad_cap = λ s c sound e n z. down_refused s c sound e n z (Err BadCap) refl;
+      down_com_tim = λ s c sound e n z. down_refused s c sound e n z (Err ComTim) refl;
       down_granted = down_passed;
       down_counts = down_becomes;
       down_no_other = down_status;
@@ -143,7 +142,7 @@ module _ (s : State) (c : Call) (sound : sound_state s ≡ true) (e : is_ec s c.
     unfolding hypercall lookup
     lookup_checked = by_rule s c LOOKUP lookup refl sound e n
 
-    lookup_refused : (refusal : Reply) → Refusal refusal → (reply_of (rules s c) ≡ refusal) ↔ Cause lookup_checks refusal
+    lookup_refused : (refusal : Reply) → IsRefusal refusal → (reply_of (rules s c) ≡ refusal) ↔ Cause lookup_checks refusal
     lookup_refused = refused_exactly s c lookup_checks _ _ refl lookup_checked
 
     lookup_passed : ((answer : ℕ) × (rules s c ≡ grant answer [])) ↔ Passed lookup_checks
@@ -166,7 +165,7 @@ module _ (s : State) (c : Call) (sound : sound_state s ≡ true) (e : is_ec s c.
   abbrev RevokeCause : Type 0
   RevokeCause = (1 < c.second) ⊎ ((c.second ≤ 1) × ((reading c.first ≡ Malformed) ⊎ ((reading c.first ≡ Malformed → ⊥) × MaskOutside c.first)))
 
-  in_fields : Cause revoke_checks BadPar ↔ RevokeCause
+  in_fields : Cause revoke_checks (Err BadPar) ↔ RevokeCause
   in_fields = (
     ⊎_map (λ l. l) (λ x. (x.0, ⊎_map (λ m. m) (λ y. (y.0, outside_fields c.first y.0 y.1)) x.1)),
     ⊎_map (λ l. l) (λ x. (x.0, ⊎_map (λ m. m) (λ y. (y.0, fields_outside c.first y.0 y.1)) x.1)),
@@ -177,9 +176,9 @@ module _ (s : State) (c : Call) (sound : sound_state s ≡ true) (e : is_ec s c.
     unfolding hypercall revoke
     revoke_checked = by_rule s c REVOKE revoke refl sound e n
 
-    revoke_refused : (reply_of (rules s c) ≡ BadPar) ↔ RevokeCause
+    revoke_refused : (reply_of (rules s c) ≡ Err BadPar) ↔ RevokeCause
     revoke_refused =
-        let exactly = refused_exactly s c revoke_checks _ 0 refl revoke_checked BadPar refl in
+        let exactly = refused_exactly s c revoke_checks _ 0 refl revoke_checked (Err BadPar) refl in
         (λ e. in_fields.0 (exactly.0 e), λ x. exactly.1 (in_fields.1 x))
 
     revoke_passed : ((effects : List Effect) × (rules s c ≡ grant 0 effects)) ↔
@@ -199,7 +198,7 @@ module _ (s : State) (c : Call) (sound : sound_state s ≡ true) (e : is_ec s c.
 pub lookup_refused_exactly : LookupRefusedExactly
 lookup_refused_exactly =
     record {
-      lookup_bad_par = λ s c sound e n. lookup_refused s c sound e n BadPar refl;
+      lookup_bad_par = λ s c sound e n. lookup_refused s c sound e n (Err BadPar) refl;
       lookup_granted = lookup_passed;
       lookup_no_other = lookup_status;
     }
@@ -223,25 +222,25 @@ outcome_reply false true false w x y z = refl
 outcome_reply false false d w x y z = refl
 
 -- SHORT is no refusal of a check
-short_no_refusal : (reply : Reply) (needed : ℕ) → Refusal reply → reply ≡ Short needed → ⊥
+short_no_refusal : (reply : Reply) (needed : ℕ) → IsRefusal reply → reply ≡ Err (Short needed) → ⊥
 short_no_refusal reply needed r e =
     let z : status_of reply ≡ 19 = ap status_of e in
-    let n : NoRoom ≡ reply = rw z at r in
+    let n : Err NoRoom ≡ reply = rw z at r in
     omega (arith, ap status_of n)
 
 -- what a list that is too short or not gets
 module _ (size found needed : ℕ) where
-  short_told : (cond (ltb size found) (Short found) (Success found) ≡ Short needed) ↔ ((size < found) × (found ≡ needed))
+  short_told : (cond (ltb size found) (Err (Short found)) (Ok found) ≡ Err (Short needed)) ↔ ((size < found) × (found ≡ needed))
   short_told =
       cases (ltb size found)
-      (λ (t : ltb size found ≡ true). rw t (λ e. (ltb-true size found t, ap answer_of e), λ x. ap Short x.1))
+      (λ (t : ltb size found ≡ true). rw t (λ e. (ltb-true size found t, ap answer_of e), λ x. ap (λ needed. Err (Short needed)) x.1))
       (λ (f : ltb size found ≡ false). rw f (λ e. absurd (omega (arith, ap status_of e)), λ x. absurd (omega (arith, ltb-false size found f))))
 
-  success_told : (cond (ltb size found) (Short found) (Success found) ≡ Success needed) ↔ ((found ≤ size) × (found ≡ needed))
+  success_told : (cond (ltb size found) (Err (Short found)) (Ok found) ≡ Ok needed) ↔ ((found ≤ size) × (found ≡ needed))
   success_told =
       cases (ltb size found)
       (λ (t : ltb size found ≡ true). rw t (λ e. absurd (omega (arith, ap status_of e)), λ x. absurd (omega (arith, ltb-true size found t))))
-      (λ (f : ltb size found ≡ false). rw f (λ e. (ltb-false size found f, ap answer_of e), λ x. ap Success x.1))
+      (λ (f : ltb size found ≡ false). rw f (λ e. (ltb-false size found f, ap answer_of e), λ x. ap Ok x.1))
 
 module _ (tables : Tables) (place : ℕ) (list : List ℕ) (good : sound tables ≡ true) where
   abbrev census_checks : List Check
@@ -252,20 +251,20 @@ module _ (tables : Tables) (place : ℕ) (list : List ℕ) (good : sound tables 
   heir_count = length (descendants (shown tables).caps place)
 
   abbrev census_last : Reply
-  census_last = cond (ltb (length list) heir_count) (Short heir_count) (Success heir_count)
+  census_last = cond (ltb (length list) heir_count) (Err (Short heir_count)) (Ok heir_count)
 
   census_reply : (census_of tables place list).reply ≡ in_turn census_checks census_last
   unfolding counted census_of
   census_reply = rw good (outcome_reply (leb places place) (live ((shown tables).caps place)) (ltb (length list) heir_count) _ _ _ _)
 
-  census_refused : (refusal : Reply) → Refusal refusal → ((census_of tables place list).reply ≡ refusal) ↔ Cause census_checks refusal
+  census_refused : (refusal : Reply) → IsRefusal refusal → ((census_of tables place list).reply ≡ refusal) ↔ Cause census_checks refusal
   census_refused refusal r =
       rw census_reply
       (caused_exactly census_last refusal
-      (neither_reply (ltb (length list) heir_count) (Short heir_count) (Success heir_count) refusal (λ e. short_no_refusal refusal heir_count r (sym e))
+      (neither_reply (ltb (length list) heir_count) (Err (Short heir_count)) (Ok heir_count) refusal (λ e. short_no_refusal refusal heir_count r (sym e))
       (λ e. success_no_refusal refusal heir_count r (sym e))) r census_checks)
 
-  census_told : (P : Reply → Type 0) → ((reply : Reply) → Refusal reply → P reply → ⊥) → P (census_of tables place list).reply ↔ (Passed census_checks × P census_last)
+  census_told : (P : Reply → Type 0) → ((reply : Reply) → IsRefusal reply → P reply → ⊥) → P (census_of tables place list).reply ↔ (Passed census_checks × P census_last)
   census_told P none =
       rw census_reply (each_passed P none census_last census_checks, λ x. each_passes P none census_last census_checks x.0 x.1)
 
@@ -274,10 +273,10 @@ module _ (tables : Tables) (place : ℕ) (list : List ℕ) (good : sound tables 
   census_status =
       rw census_reply
       (status_among (0 ∷ 4 ∷ 5 ∷ 19 ∷ []) census_last
-      (either_way (λ (reply : Reply). member (status_of reply) (0 ∷ 4 ∷ 5 ∷ 19 ∷ []) ≡ true) (ltb (length list) heir_count) (Short heir_count) (Success heir_count) refl refl)
+      (either_way (λ (reply : Reply). member (status_of reply) (0 ∷ 4 ∷ 5 ∷ 19 ∷ []) ≡ true) (ltb (length list) heir_count) (Err (Short heir_count)) (Ok heir_count) refl refl)
       census_checks refl)
 
-  census_tells : (P : Reply → Type 0) (Told : Type 0) → ((reply : Reply) → Refusal reply → P reply → ⊥) → P census_last ↔ Told →
+  census_tells : (P : Reply → Type 0) (Told : Type 0) → ((reply : Reply) → IsRefusal reply → P reply → ⊥) → P census_last ↔ Told →
       P (census_of tables place list).reply ↔ ((place < places) × ((0 < ((shown tables).caps place).permissions) × Told))
   census_tells P Told none told =
       let exactly = census_told P none in (
@@ -288,15 +287,15 @@ module _ (tables : Tables) (place : ℕ) (list : List ℕ) (good : sound tables 
 pub census_refused_exactly : CensusRefusedExactly
 census_refused_exactly =
     record {
-      census_bad_par = λ tables place list good. census_refused tables place list good BadPar refl;
-      census_bad_cap = λ tables place list good. census_refused tables place list good BadCap refl;
+      census_bad_par = λ tables place list good. census_refused tables place list good (Err BadPar) refl;
+      census_bad_cap = λ tables place list good. census_refused tables place list good (Err BadCap) refl;
       census_short =
           λ tables place list good needed.
-          census_tells tables place list good (λ (reply : Reply). reply ≡ Short needed) _ (λ reply. short_no_refusal reply needed)
+          census_tells tables place list good (λ (reply : Reply). reply ≡ Err (Short needed)) _ (λ reply. short_no_refusal reply needed)
           (short_told (length list) (heir_count tables place list good) needed);
       census_success =
           λ tables place list good needed.
-          census_tells tables place list good (λ (reply : Reply). reply ≡ Success needed) _ (λ reply. success_no_refusal reply needed)
+          census_tells tables place list good (λ (reply : Reply). reply ≡ Ok needed) _ (λ reply. success_no_refusal reply needed)
           (success_told (length list) (heir_count tables place list good) needed);
       census_no_other = census_status;
     }

@@ -1,4 +1,5 @@
 -- Each refusal of a call has exactly its cause: the checks of each call's rule as facts.
+use Rattle.std.specs.Prelude.{Err, Ok}
 use Prim.Native.Nat.{ℕ}
 use mathlib.Core.Path.{◌≡◌, refl, sym, ap, ◌∙◌}
 use mathlib.Core.Logic.{◌↔◌}
@@ -10,9 +11,8 @@ use borrow.Author.Tests.{ltb-true, eqb-true, eq-eqb}
 use Rattle.words.specs.Fields.{bits}
 use Rattle.words.specs.Sizes.{block_words}
 use Rattle.words.specs.Permissions.{permits}
-use Rattle.reply.specs.Replies.{status_of}
-use Rattle.reply.specs.declared.Reply.{Reply}
-use Rattle.reply.specs.declared.Reply.TheVariants.{Success, ComTim, BadCap, BadPar, BadCpu}
+use Rattle.reply.specs.Replies.{status_of, Reply}
+use Rattle.reply.specs.declared.Refusal.TheVariants.{ComTim, BadCap, BadPar, BadCpu}
 use Rattle.interface.specs.Basics.{any, member}
 use Rattle.interface.specs.Places.{State, PT, domain_word, cpu_word, call_bit, kind_of, object_place, permitted, object_in}
 use Rattle.interface.specs.Damage.{sound_state, is_ec}
@@ -24,7 +24,7 @@ use Rattle.interface.specs.Refusals.{Holds, WholeBlocks, callee_of, payload_aske
 use Rattle.interface.proofs.Basics.BoolLaws.{and_left, and_right, both}
 use Rattle.interface.proofs.Sound.Soundness.{Sound, sound_facts}
 use Rattle.interface.proofs.Sound.SoundFacts.{permits_live, permitted_kind, own_record}
-use Rattle.interface.proofs.Refusals.ChecksInTurn.{Decides, decides_at_most, decides_equal, decides_other, decides_fact, Refusal, success_no_refusal, Check, in_turn, Cause, Passed, checked, caused_exactly, each_passed, each_passes, all_among, status_among, verdict_in_turn, reply_in_turn, last_stands}
+use Rattle.interface.proofs.Refusals.ChecksInTurn.{Decides, decides_at_most, decides_equal, decides_other, decides_fact, IsRefusal, success_no_refusal, Check, in_turn, Cause, Passed, checked, caused_exactly, each_passed, each_passes, all_among, status_among, verdict_in_turn, reply_in_turn, last_stands}
 
 -- a call of a number by an EC on a sound state is judged by the number's rule
 pub by_rule : (s : State) (c : Call) (number : ℕ) (verdict : State → Call → Verdict) → hypercall number ≡ rule verdict → sound_state s ≡ true → is_ec s c.caller ≡ true →
@@ -35,39 +35,39 @@ by_rule s c number verdict e sound ec n =
     rw (sound, is_rule, ec)
 
 -- a call's verdict that is its checks' in turn, and then one that succeeds
-module _ (s : State) (c : Call) (checks : List Check) (last : Verdict) (answer : ℕ) (succeeds : reply_of last ≡ Success answer)
+module _ (s : State) (c : Call) (checks : List Check) (last : Verdict) (answer : ℕ) (succeeds : reply_of last ≡ Ok answer)
     (is : rules s c ≡ verdict_in_turn checks last) where
-  reply_is : reply_of (rules s c) ≡ in_turn checks (Success answer)
+  reply_is : reply_of (rules s c) ≡ in_turn checks (Ok answer)
   reply_is = ap reply_of is ∙ reply_in_turn checks last ∙ ap (in_turn checks) succeeds
 
   -- it refuses exactly where the refusal has a cause
-  pub refused_exactly : (refusal : Reply) → Refusal refusal → (reply_of (rules s c) ≡ refusal) ↔ Cause checks refusal
+  pub refused_exactly : (refusal : Reply) → IsRefusal refusal → (reply_of (rules s c) ≡ refusal) ↔ Cause checks refusal
   refused_exactly refusal r =
-      rw reply_is (caused_exactly (Success answer) refusal (λ e. success_no_refusal refusal answer r (sym e)) r checks)
+      rw reply_is (caused_exactly (Ok answer) refusal (λ e. success_no_refusal refusal answer r (sym e)) r checks)
 
   -- it grants exactly where each check is passed
-  pub granted_exactly : (reply_of (rules s c) ≡ Success answer) ↔ Passed checks
+  pub granted_exactly : (reply_of (rules s c) ≡ Ok answer) ↔ Passed checks
   granted_exactly =
       rw reply_is (
-        λ e. (each_passed (λ (reply : Reply). reply ≡ Success answer) (λ reply r p. success_no_refusal reply answer r p) (Success answer) checks e).0,
-        λ f. each_passes (λ (reply : Reply). reply ≡ Success answer) (λ reply r p. success_no_refusal reply answer r p) (Success answer) checks f refl,
+        λ e. (each_passed (λ (reply : Reply). reply ≡ Ok answer) (λ reply r p. success_no_refusal reply answer r p) (Ok answer) checks e).0,
+        λ f. each_passes (λ (reply : Reply). reply ≡ Ok answer) (λ reply r p. success_no_refusal reply answer r p) (Ok answer) checks f refl,
       )
 
   -- with this answer and no other
-  pub granted_somehow : ((given : ℕ) × (reply_of (rules s c) ≡ Success given)) ↔ Passed checks
+  pub granted_somehow : ((given : ℕ) × (reply_of (rules s c) ≡ Ok given)) ↔ Passed checks
   granted_somehow = (
     λ (given, e).
-        (each_passed (λ (reply : Reply). reply ≡ Success given) (λ reply r p. success_no_refusal reply given r p) (Success answer) checks (rw reply_is at e)).0,
+        (each_passed (λ (reply : Reply). reply ≡ Ok given) (λ reply r p. success_no_refusal reply given r p) (Ok answer) checks (rw reply_is at e)).0,
     λ f. (answer, granted_exactly.1 f),
   )
 
   -- and then by this verdict
-  pub passed_grants : reply_of (rules s c) ≡ Success answer → rules s c ≡ last
+  pub passed_grants : reply_of (rules s c) ≡ Ok answer → rules s c ≡ last
   passed_grants e = is ∙ last_stands checks last (granted_exactly.0 e)
 
   -- its status is a check's, or SUCCESS
   pub no_other : (statuses : List ℕ) → member 0 statuses ≡ true → all_among statuses checks ≡ true → member (status_of (reply_of (rules s c))) statuses ≡ true
-  no_other statuses h all = rw reply_is (status_among statuses (Success answer) h checks all)
+  no_other statuses h all = rw reply_is (status_among statuses (Ok answer) h checks all)
 
 -- the test of a permission at a place of an EC's own domain decides whether the place holds such a capability
 module _ (s : State) (k : Sound s) (caller : ℕ) (e : is_ec s caller ≡ true) (selector kind bit : ℕ) where
@@ -123,10 +123,10 @@ module _ (s : State) (c : Call) (sound : sound_state s ≡ true) (e : is_ec s c.
     unfolding hypercall portal_call payload_fits call_moved
     call_checked = by_rule s c CALL portal_call refl sound e n
 
-    call_refused : (refusal : Reply) → Refusal refusal → (reply_of (rules s c) ≡ refusal) ↔ Cause call_checks refusal
+    call_refused : (refusal : Reply) → IsRefusal refusal → (reply_of (rules s c) ≡ refusal) ↔ Cause call_checks refusal
     call_refused = refused_exactly s c call_checks call_last call_moved.filled refl call_checked
 
-    call_passed : ((given : ℕ) × (reply_of (rules s c) ≡ Success given)) ↔ Passed call_checks
+    call_passed : ((given : ℕ) × (reply_of (rules s c) ≡ Ok given)) ↔ Passed call_checks
     call_passed = granted_somehow s c call_checks call_last call_moved.filled refl call_checked
 
     call_status : member (status_of (reply_of (rules s c))) (0 ∷ 1 ∷ 4 ∷ 5 ∷ 7 ∷ []) ≡ true
@@ -136,10 +136,10 @@ module _ (s : State) (c : Call) (sound : sound_state s ≡ true) (e : is_ec s c.
 pub call_refused_exactly : CallRefusedExactly
 call_refused_exactly =
     record {
-      call_bad_par = λ s c sound e n. call_refused s c sound e n BadPar refl;
-      call_bad_cap = λ s c sound e n. call_refused s c sound e n BadCap refl;
-      call_com_tim = λ s c sound e n. call_refused s c sound e n ComTim refl;
-      call_bad_cpu = λ s c sound e n. call_refused s c sound e n BadCpu refl;
+      call_bad_par = λ s c sound e n. call_refused s c sound e n (Err BadPar) refl;
+      call_bad_cap = λ s c sound e n. call_refused s c sound e n (Err BadCap) refl;
+      call_com_tim = λ s c sound e n. call_refused s c sound e n (Err ComTim) refl;
+      call_bad_cpu = λ s c sound e n. call_refused s c sound e n (Err BadCpu) refl;
       call_granted = call_passed;
       call_no_other = call_status;
     }

@@ -7,12 +7,13 @@ use native.Mathlib.Omega.{arith}
 use lib.Dec.{eqb, leb, ltb}
 use lib.ListN.{length}
 use borrow.Author.Tests.{ltb-true, lt-ltb, le-leb, eqb-true, eqb-false, eq-eqb, not-true}
+use Rattle.reply.specs.declared.Refusal.{Refusal}
 use Rattle.words.specs.Sizes.{domains, object, selectors, place_of, domain_of, records, record_words}
 use Rattle.words.proofs.PlaceLaws.{domain_back}
 use Rattle.descriptor.specs.declared.Range.{Range}
 use Rattle.descriptor.specs.declared.Reading.{Reading}
 use Rattle.descriptor.specs.declared.Reading.TheVariants.{Null, Malformed, Good}
-use Rattle.reply.specs.declared.Reply.{Reply}
+use Rattle.reply.specs.Replies.{Reply}
 use Rattle.descriptor.specs.Descriptors.{Proper}
 use Rattle.descriptor.proofs.DescriptorLaws.{good_proper}
 use Rattle.interface.specs.Basics.{word, all_below}
@@ -136,7 +137,7 @@ abbrev pub steps_of : State → Call → Creation → List Effect
 steps_of s c new = make (free_record s) new.words ∷ new.delegations ++ (hold (new_place s c) (free_record s) ∷ [])
 
 -- what holds of every refusal, and of a creation's steps once it has been checked, holds of it
-pub granted_so : (P : Verdict → Type 0) (s : State) (c : Call) (new : Creation) → ((reply : Reply) → P (refuse reply)) →
+pub granted_so : (P : Verdict → Type 0) (s : State) (c : Call) (new : Creation) → ((refusal : Refusal) → P (refuse refusal)) →
     (Granted s c new → P (grant 0 (steps_of s c new))) → P (creation s c new)
 unfolding creation
 granted_so P s c new refused f =

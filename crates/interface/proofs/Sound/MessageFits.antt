@@ -1,4 +1,6 @@
 -- CALL's steps fit: each item's delegations go from places of the source's domain to places of the receiver's, which has a PD.
+use Rattle.reply.specs.declared.Refusal.{Refusal}
+use Rattle.std.specs.Prelude.{Ok, Err, if◌then◌else◌}
 use mathlib.Core.Logic.{◌⊎◌, inl, inr, ⊎_elim}
 use Prim.Native.Nat.{ℕ, zero, suc, ◌+◌, ◌^◌, ◌≤◌, ◌<◌}
 use mathlib.Core.Path.{◌≡◌, refl, sym, subst}
@@ -11,13 +13,10 @@ use Rattle.words.specs.Sizes.{domains, selectors, place_of}
 use Rattle.words.proofs.RangeLaws.{ends_inside}
 use Rattle.descriptor.specs.declared.Reading.{Reading}
 use Rattle.descriptor.specs.declared.Reading.TheVariants.{Null, Malformed, Good}
-use Rattle.descriptor.specs.declared.Match.{Match}
-use Rattle.descriptor.specs.declared.Match.TheVariants.{Both, Neither}
-use Rattle.reply.specs.declared.Reply.{Reply}
+use Rattle.descriptor.specs.Descriptors.{Match, Proper, ReadProper}
+use Rattle.reply.specs.Replies.{Reply}
 use Rattle.descriptor.specs.declared.Reason.TheVariants.{TypesDiffer}
-use Rattle.descriptor.specs.Descriptors.{Proper, ReadProper}
 use Rattle.descriptor.proofs.DescriptorLaws.{good_proper}
-use Rattle.std.specs.Prelude.{if◌then◌else◌}
 use Rattle.interface.specs.Basics.{word}
 use Rattle.interface.specs.Places.{State, PT, ec_word, domain_word, call_bit, object_place, permitted, object_in}
 use Rattle.interface.specs.Boot.{hypervisor, root}
@@ -35,8 +34,8 @@ use Rattle.interface.proofs.Sound.SoundFacts.{own_record, permitted_kind, portal
 
 -- a matched item and its window are proper ranges of one space
 abbrev pub MatchProper : Match → Type 0
-MatchProper (Neither reason) = Unit {0}
-MatchProper (Both item window) = Proper item × Proper window × (item.space ≡ window.space)
+MatchProper (Err reason) = Unit {0}
+MatchProper (Ok (item, window)) = Proper item × Proper window × (item.space ≡ window.space)
 
 pub match_proper : (item window : Reading) → ReadProper item → ReadProper window → MatchProper (matched item window)
 unfolding matched
@@ -50,14 +49,14 @@ match_proper (Good item) Null p q = tt
 match_proper (Good item) Malformed p q = tt
 match_proper (Good item) (Good window) p q = same_space (eqb item.space window.space) refl
   where
-    same_space : (same : Bool) → eqb item.space window.space ≡ same → MatchProper (cond same (Both item window) (Neither TypesDiffer))
+    same_space : (same : Bool) → eqb item.space window.space ≡ same → MatchProper (cond same (Ok (item, window)) (Err TypesDiffer))
     same_space true e = (p item refl, q window refl, eqb-true item.space window.space e)
     same_space false e = tt
 
 -- where an item is matched with its window, both were read so
 abbrev pub MatchRead : Reading → Reading → Match → Type 0
-MatchRead read window_read (Neither reason) = Unit {0}
-MatchRead read window_read (Both item window) = (read ≡ Good item) × (window_read ≡ Good window)
+MatchRead read window_read (Err reason) = Unit {0}
+MatchRead read window_read (Ok (item, window)) = (read ≡ Good item) × (window_read ≡ Good window)
 
 pub match_read : (item window : Reading) → MatchRead item window (matched item window)
 unfolding matched
@@ -70,7 +69,7 @@ match_read Malformed (Good window) = tt
 match_read (Good item) Null = tt
 match_read (Good item) Malformed = tt
 match_read (Good item) (Good window) =
-    either_way (MatchRead (Good item) (Good window)) (eqb item.space window.space) (Both item window) (Neither TypesDiffer) (refl, refl) tt
+    either_way (MatchRead (Good item) (Good window)) (eqb item.space window.space) (Ok (item, window)) (Err TypesDiffer) (refl, refl) tt
 
 -- the source's domain is the sender's, or domain 0 where H is set and the sender is the root
 pub source_either : (sender second : ℕ) →
@@ -96,8 +95,8 @@ source_small sender second f =
 delegate_fits : (s : State) (sender receiver second : ℕ) (match : Match) → sender < domains → receiver < domains → has_pd s receiver ≡ true → MatchProper match →
     PlaceSteps (delegate_item s sender receiver second match).effects s
 unfolding delegate_item
-delegate_fits s sender receiver second (Neither reason) f l h p = place_steps_none s
-delegate_fits s sender receiver second (Both item window) f l h p =
+delegate_fits s sender receiver second (Err reason) f l h p = place_steps_none s
+delegate_fits s sender receiver second (Ok (item, window)) f l h p =
     let from = source_domain sender second in
     let o = smaller_order item window in
     let hotspot = hotspot_field second in
@@ -114,8 +113,8 @@ delegate_fits s sender receiver second (Both item window) f l h p =
 -- a translated item has no steps
 translate_fits : (s : State) (sender receiver : ℕ) (match : Match) → PlaceSteps (translate_item s sender receiver match).effects s
 unfolding translate_item
-translate_fits s sender receiver (Neither reason) = place_steps_none s
-translate_fits s sender receiver (Both item window) = place_steps_none s
+translate_fits s sender receiver (Err reason) = place_steps_none s
+translate_fits s sender receiver (Ok (item, window)) = place_steps_none s
 
 -- an item's steps fit on the state as it stands, and so do those of some items in turn
 item_fits : (s : State) (sender receiver : ℕ) (source target : List ℕ) (i : ℕ) → sender < domains → receiver < domains → has_pd s receiver ≡ true →
@@ -143,7 +142,7 @@ carried_fits s sender receiver source target f l h (suc i) =
     (item_fits now sender receiver source target i f l (same_home s now receiver ih.objects_stay h))
 
 -- what holds of every refusal, and of a transfer to the EC of a permitted portal, holds of CALL
-pub call_so : (P : Verdict → Type 0) (s : State) (c : Call) → ((reply : Reply) → P (refuse reply)) →
+pub call_so : (P : Verdict → Type 0) (s : State) (c : Call) → ((refusal : Refusal) → P (refuse refusal)) →
     let portal = object_place (caller_domain s c) c.first in
     let moved = transfer s (caller_domain s c) (s.objects (s.objects (object_in s portal) ec_word) domain_word) c.source c.target in
     (permitted s portal PT call_bit ≡ true → P (deliver moved.filled moved.effects moved.block)) → P (portal_call s c)

@@ -5,11 +5,12 @@ use mathlib.Core.Bool.{Bool, true, not}
 use native.Mathlib.Omega.{arith}
 use lib.Dec.{eqb, leb, ltb}
 use borrow.Author.Tests.{leb-true}
+use Rattle.reply.specs.declared.Refusal.{Refusal}
 use Rattle.words.specs.Sizes.{place_of}
 use Rattle.descriptor.specs.declared.Reading.{Reading}
 use Rattle.descriptor.specs.declared.Reading.TheVariants.{Null, Malformed, Good}
-use Rattle.reply.specs.declared.Reply.{Reply}
-use Rattle.reply.specs.declared.Reply.TheVariants.{BadPar}
+use Rattle.reply.specs.Replies.{Reply}
+use Rattle.reply.specs.declared.Refusal.TheVariants.{BadPar}
 use Rattle.interface.specs.Places.{State}
 use Rattle.interface.specs.Boot.{hypervisor}
 use Rattle.interface.specs.Damage.{is_ec}
@@ -36,7 +37,7 @@ cuts_fit s domain self (Good range) h =
     )
 
 -- what holds of every refusal, and of the steps of the descriptor's revocation, holds of REVOKE
-pub revoke_so : (P : Verdict → Type 0) (s : State) (c : Call) → ((reply : Reply) → P (refuse reply)) →
+pub revoke_so : (P : Verdict → Type 0) (s : State) (c : Call) → ((refusal : Refusal) → P (refuse refusal)) →
     P (grant 0 (cuts (caller_domain s c) (eqb c.second 1) (reading c.first))) → P (revoke s c)
 unfolding revoke
 revoke_so P s c refused f =

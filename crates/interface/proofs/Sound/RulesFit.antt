@@ -5,8 +5,9 @@ use mathlib.Core.Bool.{true, false, not}
 use mathlib.Core.List.{[]}
 use lib.Dec.{eqb}
 use borrow.Author.Tests.{eqb-true}
-use Rattle.reply.specs.declared.Reply.{Reply}
-use Rattle.reply.specs.declared.Reply.TheVariants.{Damaged, BadPar, BadCaller}
+use Rattle.reply.specs.declared.Refusal.{Refusal}
+use Rattle.reply.specs.Replies.{Reply}
+use Rattle.reply.specs.declared.Refusal.TheVariants.{Damaged, BadPar, BadCaller}
 use Rattle.std.specs.Prelude.{if◌then◌else◌}
 use Rattle.interface.specs.Places.{State}
 use Rattle.interface.specs.Damage.{is_ec, sound_state}
@@ -34,7 +35,7 @@ lookup_fits s c =
     require_fits s (not (malformed (reading c.first))) BadPar (grant (found s (caller_domain s c) (reading c.first)) []) (λ _. tt)
 
 -- one number's rule, of which something holds where the caller is an EC, and what the other numbers stand for
-pub or_else : (P : Verdict → Type 0) (s : State) (c : Call) → ((reply : Reply) → P (refuse reply)) → (number : ℕ) (verdict : State → Call → Verdict) (others : Built) →
+pub or_else : (P : Verdict → Type 0) (s : State) (c : Call) → ((refusal : Refusal) → P (refuse refusal)) → (number : ℕ) (verdict : State → Call → Verdict) (others : Built) →
     (is_ec s c.caller ≡ true → c.number ≡ number → P (verdict s c)) → P (called s c others) →
     P (called s c (if eqb c.number number then rule verdict else others))
 unfolding called

@@ -6,8 +6,9 @@ use mathlib.Core.List.{[], ◌∷◌}
 use native.Mathlib.Omega.{arith}
 use lib.Dec.{eqb, leb}
 use borrow.Author.Tests.{eqb-true, eqb-false, le-leb}
+use Rattle.reply.specs.declared.Refusal.{Refusal}
 use Rattle.words.specs.Sizes.{records, record_words}
-use Rattle.reply.specs.declared.Reply.{Reply}
+use Rattle.reply.specs.Replies.{Reply}
 use Rattle.interface.specs.Basics.{put, put_from}
 use Rattle.interface.specs.Places.{State, SM, kind_word, count_word, named_words, kind_of, object_place, permitted, object_in}
 use Rattle.interface.specs.Damage.{unnamed_rule, is_ec, ec_rule, sc_rule, pt_rule}
@@ -59,7 +60,7 @@ module _ (s : State) (number value : ℕ) where
       }
 
 -- what holds of every refusal, and of a step that stores a count once the semaphore is permitted, holds of SM_CTRL
-pub semaphore_so : (P : Verdict → Type 0) (s : State) (c : Call) → ((reply : Reply) → P (refuse reply)) →
+pub semaphore_so : (P : Verdict → Type 0) (s : State) (c : Call) → ((refusal : Refusal) → P (refuse refusal)) →
     let place = object_place (caller_domain s c) c.first in
     (permitted s place SM c.second ≡ true → (value : ℕ) → P (grant 0 (count (object_in s place) value ∷ []))) → P (sm_ctrl s c)
 unfolding sm_ctrl

@@ -1,4 +1,5 @@
 -- What calls and the census make of the tables of a state is what they make of the state.
+use Rattle.std.specs.Prelude.{Ok}
 use Prim.Native.Nat.{ℕ, ◌≤◌, ◌<◌}
 use mathlib.Core.Path.{◌≡◌, ap}
 use mathlib.Core.Bool.{true}
@@ -6,7 +7,6 @@ use mathlib.Core.List.{List, ◌++◌}
 use lib.ListN.{length, drop}
 use borrow.Author.Tests.{le-ltb, lt-leb}
 use Rattle.words.specs.Sizes.{places}
-use Rattle.reply.specs.declared.Reply.TheVariants.{Success}
 use Rattle.interface.specs.Places.{State, live, tables_of}
 use Rattle.interface.specs.Damage.{sound_state}
 use Rattle.interface.specs.Verdicts.{Call}
@@ -30,7 +30,7 @@ module _ (state : State) (ends : Ends state) where
 
 -- a census of a live place with room for its descendants counts and lists them
 pub counted_found : (s : State) (place : ℕ) (found list : List ℕ) → place < places → live (s.caps place) ≡ true → descendants s.caps place ≡ found →
-    length found ≤ length list → counted s place list ≡ record { reply = Success (length found); list = found ++ drop (length found) list }
+    length found ≤ length list → counted s place list ≡ record { reply = Ok (length found); list = found ++ drop (length found) list }
 unfolding counted
 counted_found s place found list small alive is_found enough =
     rw (lt-leb places place small, alive, is_found, le-ltb (length list) (length found) enough)

@@ -4,9 +4,10 @@ use mathlib.Core.Path.{◌≡◌, refl, sym, ◌∙◌}
 use mathlib.Core.Bool.{Bool, true, false}
 use mathlib.Core.List.{List, [], ◌∷◌, ◌++◌}
 use native.Mathlib.Omega.{arith}
+use Rattle.reply.specs.declared.Refusal.{Refusal}
 use Rattle.words.specs.Sizes.{domains, spaces, selectors, place_of, domain_of}
 use Rattle.words.proofs.PlaceLaws.{is_place, domain_back, space_back}
-use Rattle.reply.specs.declared.Reply.{Reply}
+use Rattle.reply.specs.Replies.{Reply}
 use Rattle.interface.specs.Basics.{listed}
 use Rattle.interface.specs.Places.{State}
 use Rattle.interface.specs.Damage.{has_pd}
@@ -33,14 +34,14 @@ fit_append [] ys s f g = g
 fit_append (x ∷ xs) ys s f g = (f.0, fit_append xs ys (act x s) f.1 g)
 
 -- a check of a rule: what holds of the refusal, and of what follows once the test holds, holds of the check
-pub require_so : (P : Verdict → Type 0) (test : Bool) (reply : Reply) (next : Verdict) → P (refuse reply) → (test ≡ true → P next) →
-    P (require test else reply then next)
+pub require_so : (P : Verdict → Type 0) (test : Bool) (refusal : Refusal) (next : Verdict) → P (refuse refusal) → (test ≡ true → P next) →
+    P (require test else refusal then next)
 require_so P true reply next r f = f refl
 require_so P false reply next r f = r
 
 -- its steps fit where they do once its test holds, and a refused call has none
-pub require_fits : (s : State) (test : Bool) (reply : Reply) (next : Verdict) → (test ≡ true → FitInTurn (effects_of next) s) →
-    FitInTurn (effects_of (require test else reply then next)) s
+pub require_fits : (s : State) (test : Bool) (refusal : Refusal) (next : Verdict) → (test ≡ true → FitInTurn (effects_of next) s) →
+    FitInTurn (effects_of (require test else refusal then next)) s
 require_fits s test reply next f = require_so (λ (verdict : Verdict). FitInTurn (effects_of verdict) s) test reply next tt f
 
 -- whether a domain has a PD depends on the records alone

@@ -1,12 +1,13 @@
 -- Laws of verdicts: what a call that is granted tells of the checks of its rule and of the state after it.
+use Rattle.reply.specs.declared.Refusal.{Refusal}
+use Rattle.std.specs.Prelude.{Ok, Err}
 use mathlib.Core.Path.{◌≡◌, refl, sym, ap, ◌∙◌}
 use mathlib.Core.Bool.{Bool, true, false, true≢false}
 use mathlib.Core.List.{List}
 use Prim.Native.Nat.{ℕ}
 use native.Mathlib.Omega.{arith}
-use Rattle.reply.specs.Replies.{status_of}
-use Rattle.reply.specs.declared.Reply.{Reply}
-use Rattle.reply.specs.declared.Reply.TheVariants.{Success, Damaged, BadCaller}
+use Rattle.reply.specs.Replies.{status_of, Reply}
+use Rattle.reply.specs.declared.Refusal.TheVariants.{Damaged, BadCaller}
 use Rattle.interface.specs.Places.{State, Tables}
 use Rattle.interface.specs.Damage.{sound_state, is_ec}
 use Rattle.interface.specs.Effects.{run}
@@ -23,7 +24,7 @@ refuses (deliver answer effects block) = false
 -- the verdict of a call that is granted, a message's or another's
 module _ (given : Verdict) (is_granted : refuses given ≡ false) where
   -- a check of a rule that comes to it was passed, and what follows the check comes to it
-  pub required : (test : Bool) (reply : Reply) (next : Verdict) → (require test else reply then next) ≡ given → (test ≡ true) × (next ≡ given)
+  pub required : (test : Bool) (refusal : Refusal) (next : Verdict) → (require test else refusal then next) ≡ given → (test ≡ true) × (next ≡ given)
   required true reply next h = (refl, h)
   required false reply next h = absurd (true≢false (ap refuses h ∙ is_granted))
 
@@ -43,18 +44,18 @@ module _ (given : Verdict) (is_granted : refuses given ≡ false) where
         (on_sound.0, (required (is_ec s c.caller) BadCaller (verdict s c) (ap (called s c) (sym e) ∙ on_sound.1)).0)
 
 -- a rule that succeeds goes on behind its check
-pub succeeds : (test : Bool) (reply : Reply) (next : Verdict) (answer : ℕ) → (status_of reply ≡ 0 → ⊥) →
-    reply_of (require test else reply then next) ≡ Success answer → (require test else reply then next) ≡ next
+pub succeeds : (test : Bool) (refusal : Refusal) (next : Verdict) (answer : ℕ) → (status_of (Err refusal) ≡ 0 → ⊥) →
+    reply_of (require test else refusal then next) ≡ Ok answer → (require test else refusal then next) ≡ next
 succeeds true reply next answer n h = refl
 succeeds false reply next answer n h = absurd (n (ap status_of h))
 
 -- two replies of SUCCESS that are equal have equal answers
-pub success_same : {a b : ℕ} → Success a ≡ Success b → a ≡ b
+pub success_same : {a b : ℕ} → ◌≡◌ {A = Reply} (Ok a) (Ok b) → a ≡ b
 success_same e = cc
 
 -- a call that succeeds has the verdict of its number's rule
 pub rule_succeeds : (s : State) (c : Call) (answer : ℕ) (verdict : State → Call → Verdict) → hypercall c.number ≡ rule verdict →
-    reply_of (rules s c) ≡ Success answer → rules s c ≡ verdict s c
+    reply_of (rules s c) ≡ Ok answer → rules s c ≡ verdict s c
 unfolding rules called
 rule_succeeds s c answer verdict e h =
     let on_sound = succeeds (sound_state s) Damaged (called s c (hypercall c.number)) answer (λ z. omega arith) h in

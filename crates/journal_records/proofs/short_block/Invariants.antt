@@ -1,5 +1,5 @@
 -- The block begins with the words that the loop has passed.
-use Prim.Native.Nat.{◌+◌, ◌-◌, ◌≤◌}
+use Prim.Native.Nat.{◌+◌}
 use mathlib.Core.Path.{◌≡◌}
 use lib.ListN.{length, take}
 use Rattle.words.specs.Sizes.{block_words}
@@ -8,7 +8,4 @@ use Rattle.interface.specs.Journal.{body_word}
 use Rattle.journal_records.proofs.short_block.Given as goal
 
 abbrev pub invariant-loop-i : goal.invariant-loop-i
-invariant-loop-i l = (l.i ≤ block_words) × (length l.block ≡ block_words) × (take l.i l.block ≡ listed l.i (λ k. body_word l.body (l.from + k)))
-
-abbrev pub decreases-loop-i : goal.decreases-loop-i
-decreases-loop-i l = block_words - l.i
+invariant-loop-i l = (length l.block ≡ block_words) × (take l.i l.block ≡ listed l.i (λ k. body_word l.body (l.from + k)))

@@ -11,44 +11,19 @@ use Rattle.journal_records.proofs.whole_block.Goals as goal
 
 pub loop-i-init : goal.loop-i-init
 unfolding listed
-loop-i-init c = (omega arith, c.requires.2, refl)
-
-pub overflow_add-at : goal.overflow_add-at
-overflow_add-at c = omega arith
-
-pub overflow_mul-at : goal.overflow_mul-at
-overflow_mul-at c = omega arith
-
-pub get32-requires : goal.get32-requires
-get32-requires c = omega arith
-
-pub offset_bounds-block-i : goal.offset_bounds-block-i
-offset_bounds-block-i c = omega arith
-
-pub bounds-block-i : goal.bounds-block-i
-bounds-block-i c = omega arith
-
-pub overflow_add-i : goal.overflow_add-i
-overflow_add-i c = omega arith
-
-pub loop-i-smaller : goal.loop-i-smaller
-loop-i-smaller c = omega arith
+loop-i-init c = (c.requires.2, refl)
 
 pub loop-i-preserved : goal.loop-i-preserved
 loop-i-preserved c =
     let turn = c.loop-i in
     let body = c.args.body.now in
-    let is_Is_word = word_at body (c.args.from + turn.i) c.get32.result c.get32.ensures in (
-      omega arith,
-      simp length-set turn.invariant.1,
-      listed_more (λ k. body_word body (c.args.from + k)) turn.block turn.i c.get32.result (omega arith) is_Is_word turn.invariant.2,
+    let word = word_at body (c.args.from + turn.i) c.get.result c.get.ensures in (
+      simp length-set turn.invariant.0,
+      listed_more (λ k. body_word body (c.args.from + k)) turn.block turn.i c.get.result (omega arith) word turn.invariant.1,
     )
-
-pub shape_of-block : goal.shape_of-block
-shape_of-block c = omega arith
 
 pub returns : goal.returns
 returns c =
     let turn = c.loop-i in
     let all : turn.i ≡ block_words = omega arith in
-    listed_all (λ k. body_word c.args.body.now (c.args.from + k)) turn.block block_words turn.invariant.1 (rw all at turn.invariant.2)
+    listed_all (λ k. body_word c.args.body.now (c.args.from + k)) turn.block block_words turn.invariant.0 (rw all at turn.invariant.1)

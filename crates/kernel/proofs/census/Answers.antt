@@ -1,6 +1,5 @@
 -- The census of damaged tables is refused, and that of sound ones is the tree's.
-use mathlib.Core.Path.{ap}
-use mathlib.Core.Path.{◌≡◌, sym, ◌∙◌}
+use mathlib.Core.Path.{ap, ◌≡◌, sym, ◌∙◌}
 use mathlib.Core.Bool.{true, not}
 use borrow.Author.Tests.{not-true, not-false}
 use Rattle.interface.specs.Places.{tables}
@@ -18,7 +17,7 @@ undamaged c = sym c.is_sound.ensures ∙ not-false _ (ap not c.if-not-is_sound.f
 pub returns-then-not-is_sound : goal.returns-then-not-is_sound
 returns-then-not-is_sound c =
     let refused = census_refused _ _ _ _ (sym c.is_sound.ensures ∙ not-true _ (ap not c.if-not-is_sound.true)) in
-    record { list_after = refused; shows_heirs = (showing_heirs _ _ _ _ refused).1 }
+    record { is_census = refused; shows_heirs = (showing_heirs _ _ _ _ refused).1 }
 
 pub census-requires : goal.census-requires
 census-requires c = let t = undamaged (goal.at.census-requires c).Else-not-is_sound in (census_lengths _ _ t, census_links _ _ t)
@@ -26,4 +25,4 @@ census-requires c = let t = undamaged (goal.at.census-requires c).Else-not-is_so
 pub returns : goal.returns
 returns c =
     let counted = census_counted _ _ _ _ (undamaged (goal.at.returns c).Else-not-is_sound) _ c.census.ensures in
-    record { list_after = counted; shows_heirs = (showing_heirs _ _ _ _ counted).1 }
+    record { is_census = counted; shows_heirs = (showing_heirs _ _ _ _ counted).1 }

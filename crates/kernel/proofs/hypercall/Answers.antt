@@ -17,10 +17,10 @@ pub serve-requires : goal.serve-requires
 serve-requires c = sym c.is_sound.ensures ∙ c.if-is_sound.true
 
 pub returns-then-is_sound : goal.returns-then-is_sound
-returns-then-is_sound c = record { target_after = c.serve.ensures.serves; goes_on = (going_on _ _ _ c.serve.ensures.serves).1 }
+returns-then-is_sound c = record { is_outcome = c.serve.ensures.serves; goes_on = (going_on _ _ _ c.serve.ensures.serves).1 }
 
 pub returns : goal.returns
 returns c =
     let by = call_by (goal.at.returns c).Start in
     let refused = damaged_outcome _ _ by (sym c.is_sound.ensures ∙ c.if-is_sound.false) in
-    record { target_after = refused; goes_on = (going_on _ by _ refused).1 }
+    record { is_outcome = refused; goes_on = (going_on _ by _ refused).1 }

@@ -1,17 +1,15 @@
--- Each place before the loop's offset continues the range.
-use Prim.Native.Nat.{◌+◌, ◌<◌}
+-- Each place of the range continues it.
+use Prim.Native.Nat.{◌+◌}
 use mathlib.Core.Path.{refl, sym, ap, ◌∙◌}
-use mathlib.Core.Bool.{not}
 use native.Mathlib.Omega.{arith}
 use lib.Pow.{pow_pos}
 use borrow.Author.Rules.{rules}
-use borrow.Author.Tests.{not-true, not-false}
-use Rattle.words.specs.Sizes.{places as placeCount}
-use Rattle.interface.specs.Basics.{all_below}
 use Rattle.interface.specs.Places.{Cap, cap_at}
-use Rattle.lookup.proofs.UniformLaws.{range_holds, Around, breaks, all_continue, one_more}
+use Rattle.std.proofs.lemmas.Iterator.{YieldsList-from_range}
+use Rattle.std.proofs.lemmas.Iterator.Search.{all_from_yields_List}
+use Rattle.lookup.proofs.UniformLaws.{range_holds, Around, continued_at, uniform_is, all_of_range}
 use Rattle.lookup.proofs.is_uniform.Goals as goal
-use Rattle.lookup.proofs.is_uniform.Goals.{After-size-size, After-load-permissions, After-load-resource, In-loop-offset}
+use Rattle.lookup.proofs.is_uniform.Goals.{After-size-size, After-load-permissions, After-load-resource}
 
 -- the range that the loop goes through
 around : (c : After-load-resource) →
@@ -25,10 +23,6 @@ around c =
       is_permissions = ap (λ (cap : Cap). cap.permissions) (rw c.after.ensures at c.load-permissions.ensures);
       is_resource_lem = ap (λ (cap : Cap). cap.resource) (rw c.after-2.ensures at c.load-resource.ensures);
     }
-
--- the loop's place is a place
-in_range : (c : In-loop-offset) → c.args.first.0 + (c.round_down-low.result + c.loop-offset.offset) < placeCount
-in_range c = omega (arith, c.requires.2, c.round_down-low.ensures, c.size-size.ensures, c.loop-offset-test.true)
 
 -- the selector's place and the range's first place are places
 pub after-requires : goal.after-requires
@@ -44,28 +38,10 @@ after-requires-2 c =
 pub load-resource-requires : goal.load-resource-requires
 load-resource-requires c = search (after-requires-2 (goal.at.load-resource-requires c).After-load-permissions, rules)
 
-pub loop-offset-init : goal.loop-offset-init
-unfolding all_below
-loop-offset-init c = (omega arith, refl)
-
-pub overflow_add-low : goal.overflow_add-low
-overflow_add-low c = omega (arith, in_range (goal.at.overflow_add-low c).In-loop-offset)
-
-pub after-requires-in-loop-offset : goal.after-requires-in-loop-offset
-after-requires-in-loop-offset c = in_range (goal.at.after-requires-in-loop-offset c).In-loop-offset
-
-pub load-cap-requires : goal.load-cap-requires
-load-cap-requires c = search (in_range (goal.at.load-cap-requires c).In-loop-offset, rules)
-
-pub returns-then-not-continues : goal.returns-then-not-continues
-returns-then-not-continues c =
-    breaks (around (goal.at.returns-then-not-continues c).After-load-resource) c.loop-offset-test.true (rw c.after-in-loop-offset.ensures at c.load-cap.ensures)
-    (sym c.continues.ensures ∙ not-true _ (ap not c.if-not-continues.true))
-
-pub loop-offset-preserved : goal.loop-offset-preserved
-loop-offset-preserved c =
-    let continues = sym c.continues.ensures ∙ not-false _ (ap not c.if-not-continues.false) in
-    (omega arith, one_more (around (goal.at.loop-offset-preserved c).After-load-resource) _ (rw c.after-in-loop-offset.ensures at c.load-cap.ensures) continues c.loop-offset.invariant.1)
-
 pub returns : goal.returns
-returns c = all_continue (around (goal.at.returns c).After-load-resource) (omega arith) c.loop-offset.invariant.1
+returns c =
+    let given = c.args in
+    let range = around (goal.at.returns c).After-load-resource in
+    let continues = continued_at (λ k. cap_at given.places.now (given.first.0 + k)) c.round_down-low.result c.load-permissions.result.permissions c.load-resource.result.resource in
+    all_from_yields_List continues _ _ _ c.all.ensures.ran (YieldsList-from_range 0 c.size-size.result c.size-size.result refl (omega arith)) (λ x b q k. search rules)
+    ∙ all_of_range continues c.size-size.result ∙ sym (uniform_is range)

@@ -8,6 +8,3 @@ use Rattle.lookup.proofs.largest_order.Given as goal
 abbrev pub invariant-loop-order : goal.invariant-loop-order
 invariant-loop-order l =
     (l.order ≤ l.greatest) × (largest (λ k. cap_at l.places (l.first.0 + k)) l.selector l.greatest ≡ largest (λ k. cap_at l.places (l.first.0 + k)) l.selector l.order)
-
-abbrev pub decreases-loop-order : goal.decreases-loop-order
-decreases-loop-order l = l.order

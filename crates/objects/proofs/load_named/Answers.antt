@@ -13,11 +13,11 @@ returns-in_default c =
 
 pub load-requires : goal.load-requires
 load-requires c =
-    let inside = numbered_inside _ _ (sym c.found.ensures ∙ c.in-Numbered.is) in
+    let inside = numbered_inside _ _ (sym c.found.ensures ∙ c.in-Some.is) in
     (c.requires.0, omega arith, omega arith)
 
 pub returns : goal.returns
 returns c =
     let given = c.args in
-    let inside = numbered_inside _ _ (sym c.found.ensures ∙ c.in-Numbered.is) in
+    let inside = numbered_inside _ _ (sym c.found.ensures ∙ c.in-Some.is) in
     c.load.ensures ∙ ap (λ (number : _). object_at given.table.now number given.index) inside.0

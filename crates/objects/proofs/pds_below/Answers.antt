@@ -1,23 +1,27 @@
--- The count is that of the PDs before the loop's record, and no greater than its number.
-use mathlib.Core.Path.{◌≡◌, ◌∙◌}
+-- The count is that of the PDs before the record.
+use Prim.Native.Nat.{ℕ}
+use mathlib.Core.Path.{◌∙◌}
+use mathlib.Core.Bool.{Bool}
+use mathlib.Core.List.{List}
+use lib.Dec.{eqb}
+use borrow.Author.Rules.{rules}
+use borrow.Author.Tests.{tests}
 use native.Mathlib.Omega.{arith}
-use Rattle.objects.specs.Records.{records_in}
-use Rattle.objects.proofs.CountingLaws.{no_pds, pds_more, pds_same}
+use Rattle.std.proofs.lemmas.Iterator.{YieldsList-from_range}
+use Rattle.std.proofs.lemmas.Iterator.Consumers.{YieldsList-from_filter, count_from_yields_List}
+use Rattle.interface.specs.Places.{PD, kind_word, object_at}
+use Rattle.interface.specs.Damage.{pds_below}
+use Rattle.objects.proofs.WalkLaws.{counted_numbers}
 use Rattle.objects.proofs.pds_below.Goals as goal
-use Rattle.objects.proofs.pds_below.Goals.{then-load-eq-PD, else-load-eq-PD}
 
-pub loop-at-init : goal.loop-at-init
-loop-at-init c = (omega arith, omega arith, no_pds _)
-
-pub loop-at-preserved : goal.loop-at-preserved
-loop-at-preserved c =
-    let loop = c.loop-at in
-    let s = records_in c.args.table.now in
-    let known = rw c.counted.ensures at c.load.ensures in
-    elim c.if-load-eq-PD.branch [
-      | then-load-eq-PD w ↦ (omega arith, omega arith, w.count-is ∙ pds_more s loop.at _ _ known loop.invariant.2 w.if-load-eq-PD.true)
-      | else-load-eq-PD w ↦ (omega arith, omega arith, w.count-is ∙ pds_same s loop.at _ _ known loop.invariant.2 w.if-load-eq-PD.false)
-    ]
+-- whether a record is a PD's
+abbrev is_pd : List ℕ → ℕ → Bool
+is_pd table r = eqb (object_at table r kind_word) PD
 
 pub returns : goal.returns
-returns c = let loop = c.loop-at in let end : loop.at ≡ c.args.number = omega arith in rw end at loop.invariant.2
+unfolding pds_below
+returns c =
+    let table = c.args.table.now in
+    count_from_yields_List c.filter.result _ c.count.ensures.ran
+    (YieldsList-from_filter _ (is_pd table) (YieldsList-from_range 0 c.args.number c.args.number c.filter.ensures.source (omega arith)) c.filter.ensures.closure (λ x b q k. search (rules, tests))) ∙
+    counted_numbers (is_pd table) c.args.number

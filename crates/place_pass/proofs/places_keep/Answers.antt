@@ -1,10 +1,10 @@
--- The loop's invariant: the places before this group pass the shorter test. The measure is how many places of domains with a PD are left. The places after these decide by being blank.
-use Prim.Native.Nat.{◌+◌, ◌-◌, ◌*◌, ◌%◌, ◌≤◌}
+-- The loop's invariant: the places before this group pass the shorter test. The places after these decide by being blank.
+use Prim.Native.Nat.{◌+◌, ◌*◌}
 use mathlib.Core.Path.{◌≡◌, sym, ◌∙◌, ap}
-use mathlib.Core.Bool.{true, not}
+use mathlib.Core.Bool.{not}
 use native.Mathlib.Omega.{arith}
 use Rattle.words.specs.Sizes.{stride, places}
-use Rattle.interface.proofs.Basics.LoopLaws.{all_below_done, all_below_within, answered_yes}
+use Rattle.interface.proofs.Basics.LoopLaws.{all_below_done, all_below_within}
 use Rattle.record_rules.proofs.PdLaws.{few_pds}
 use Rattle.place_pass.specs.PassKeeping.{group}
 use Rattle.place_pass.proofs.QuickLaws.{quick_decides, quick_start, blank_decides}
@@ -16,20 +16,20 @@ overflow_add-end c = omega (arith, few_pds c.requires.1.numbered)
 pub overflow_mul-end : goal.overflow_mul-end
 overflow_mul-end c = omega (arith, few_pds c.requires.1.numbered)
 
-pub loop-first-init : goal.loop-first-init
-loop-first-init c = (omega arith, omega arith, omega arith, quick_start _)
+pub loop-group-init : goal.loop-group-init
+loop-group-init c = (omega arith, quick_start _)
 
 pub group_keeps-requires : goal.group_keeps-requires
 group_keeps-requires c =
-    let loop = c.loop-first in (
+    let loop = c.loop-group in (
       record {
         pds = c.args.pds;
         places_long = c.requires.0;
         kept = c.requires.1;
-        past_hypervisor = loop.invariant.0;
+        past_hypervisor = omega arith;
         has_pd_lem = omega arith;
-        aligned = loop.invariant.1;
-        passed = loop.invariant.3;
+        aligned = omega arith;
+        passed = loop.invariant.1;
       },
       omega (arith, few_pds c.requires.1.numbered),
     )
@@ -37,17 +37,16 @@ group_keeps-requires c =
 pub returns-then-not-group_keeps : goal.returns-then-not-group_keeps
 returns-then-not-group_keeps c =
     let few = few_pds c.requires.1.numbered in
-    all_below_within _ (c.loop-first.first + group) places _ (omega arith) c.group_keeps.ensures (ap not c.if-not-group_keeps.true) ∙
+    all_below_within _ (group * c.loop-group.group + group) places _ (omega arith) c.group_keeps.ensures (ap not c.if-not-group_keeps.true) ∙
     quick_decides _ c.requires.1 c.requires.2
 
-pub overflow_add-first : goal.overflow_add-first
-overflow_add-first c = omega (arith, few_pds c.requires.1.numbered)
+pub loop-group-preserved : goal.loop-group-preserved
+loop-group-preserved c =
+    let next : group * c.loop-group.group + group ≡ group * (c.loop-group.group + 1) = omega arith in
+    (omega arith, sym (rw (c.if-not-group_keeps.false, next) at c.group_keeps.ensures))
 
-pub loop-first-smaller : goal.loop-first-smaller
-loop-first-smaller c = omega arith
-
-pub loop-first-preserved : goal.loop-first-preserved
-loop-first-preserved c = (omega arith, omega arith, omega arith, answered_yes _ _ c.group_keeps.ensures (ap not c.if-not-group_keeps.false))
+pub overflow_mul-group : goal.overflow_mul-group
+overflow_mul-group c = omega (arith, few_pds c.requires.1.numbered)
 
 pub rest_is_blank-requires : goal.rest_is_blank-requires
 rest_is_blank-requires c =
@@ -56,9 +55,9 @@ rest_is_blank-requires c =
 
 pub returns : goal.returns
 returns c =
-    let loop = c.loop-first in
+    let loop = c.loop-group in
     let few = few_pds c.requires.1.numbered in
     let end = stride * (c.args.pds + 1) in
     blank_decides _ c.requires.1 end _ (omega arith) (omega arith) (omega arith)
-    (sym (all_below_done _ end loop.first (omega arith) (omega arith) loop.invariant.3)) c.rest_is_blank.ensures ∙
+    (sym (all_below_done _ end (group * loop.group) (omega arith) (omega arith) loop.invariant.1)) c.rest_is_blank.ensures ∙
     quick_decides _ c.requires.1 c.requires.2

@@ -22,10 +22,10 @@ parent_fits-requires c = (
   c.requires.3,
   rw (extent_space _ _ c.extent_of.ensures) (omega (arith, c.requires.1, space_small c.args.place)),
   extent_own _ _ c.extent_of.ensures,
-  link_small _ _ _ c.linked.ensures c.in-At.is,
+  link_small _ _ _ c.linked.ensures c.in-Some.is,
 )
 
 pub returns : goal.returns
 returns c =
     lineage_parent (places_in c.args.table.now) c.args.place c.args.cap c.requires.2 _ _ _ _ c.if-cap-eq0.false
-    (extent_space _ _ c.extent_of.ensures ∙ c.requires.1) c.linked.ensures c.in-At.is c.parent_fits.ensures
+    (extent_space _ _ c.extent_of.ensures ∙ c.requires.1) c.linked.ensures c.in-Some.is c.parent_fits.ensures

@@ -8,8 +8,8 @@ use Rattle.place_rules.proofs.live_keeps.Goals as goal
 pub greatest_allowed-requires : goal.greatest_allowed-requires
 greatest_allowed-requires c = (c.requires.0.objects_long, omega (arith, c.requires.0.in_space, space_small c.args.place))
 
-pub returns-then-home-greatest_allowed : goal.returns-then-home-greatest_allowed
-returns-then-home-greatest_allowed c = search (live_out, rules)
+pub returns-else-home-cap : goal.returns-else-home-cap
+returns-else-home-cap c = search (live_out, rules)
 
-pub returns : goal.returns
-returns c = search (live_lineage, rules)
+pub returns-then-home-cap : goal.returns-then-home-cap
+returns-then-home-cap c = search (live_lineage, rules)

@@ -1,11 +1,21 @@
 -- Each arm writes the line of what it found, or none.
-use mathlib.Core.Path.{refl}
+use Prim.Native.Nat.{ℕ}
+use mathlib.Core.Path.{◌≡◌, refl, ap}
+use mathlib.Core.Logic.{◌⊎◌, inl, inr}
+use mathlib.Core.List.{[]}
 use native.Mathlib.Omega.{arith}
 use Rattle.interface.specs.Journal.{short}
-use Rattle.playback.specs.declared.Found.TheVariants.{Nothing, Short}
+use Rattle.playback.specs.Playing.{stop_of}
+use Rattle.playback.specs.declared.Found.{Found}
+use Rattle.playback.specs.declared.Found.TheVariants.{Nothing, Short, Whole}
 use Rattle.texts.proofs.TextLaws.{wrote_nothing}
 use Rattle.playback.proofs.LineLaws.{stop_none, stop_one}
 use Rattle.playback.proofs.add_stop_line.Goals as goal
+
+-- the end of the bytes has no line, and neither has a whole record
+no_line : (next : Found) → (next ≡ Nothing) ⊎ ((kind : ℕ) × (size : ℕ) × (next ≡ Whole kind size)) → stop_of next ≡ []
+no_line next (inl e) = ap stop_of e
+no_line next (inr (kind, size, e)) = ap stop_of e
 
 pub returns-in-Short : goal.returns-in-Short
 returns-in-Short c = record { wrote = stop_one _ Short short c.in-Short.is refl c.add_line.ensures.wrote; upper_bound = c.add_line.ensures.upper_bound }
@@ -16,9 +26,4 @@ returns-in-Unknown c = record { wrote = stop_one _ _ _ c.in-Unknown.is refl c.ad
 pub returns-in-Nothing : goal.returns-in-Nothing
 returns-in-Nothing c =
     let wrote = wrote_nothing c.args.out.now c.args.at (omega (arith, c.requires)) in
-    record { wrote = stop_none _ Nothing c.in-Nothing.is refl wrote; upper_bound = omega arith }
-
-pub returns-in-Whole : goal.returns-in-Whole
-returns-in-Whole c =
-    let wrote = wrote_nothing c.args.out.now c.args.at (omega (arith, c.requires)) in
-    record { wrote = stop_none _ _ c.in-Whole.is refl wrote; upper_bound = omega arith }
+    record { wrote = stop_none c.args.next (no_line c.args.next c.in-Nothing.is) wrote; upper_bound = omega arith }

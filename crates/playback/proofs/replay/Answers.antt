@@ -8,18 +8,18 @@ use Rattle.playback.proofs.PlayingLaws.{plays_from_boot, sound_from_boot, stoppe
 use borrow.Author.Rules.{rules}
 use Rattle.playback.proofs.replay.Goals as goal
 
-pub returns-then-status-ne0 : goal.returns-then-status-ne0
-returns-then-status-ne0 c =
-    let (other, stay) = boot_refused c.boot.ensures.booted (λ e. c.if-status-ne0.true (c.status.ensures ∙ e)) in (other, stay, refl)
+pub returns-then-is_err : goal.returns-then-is_err
+returns-then-is_err c =
+    let (other, stay) = boot_refused c.boot.ensures.booted (sym c.is_err.ensures.value ∙ c.if-is_err.true) in (other, stay, refl)
 
 pub play_records-played-requires : goal.play_records-played-requires
 play_records-played-requires c =
-    let started = boot_done c.boot.ensures.booted (sym c.status.ensures ∙ c.if-status-ne0.false) in
-    record { objects_value = sound_from_boot (c.boot.ensures.objects_after started.0); written_in_bounds = search rules }
+    let started = boot_done c.boot.ensures.booted (sym c.is_err.ensures.value ∙ c.if-is_err.false) in
+    record { sound_before = sound_from_boot (c.boot.ensures.from_boot started.0); written_inside = search rules; count_fits = search rules }
 
 pub returns-then-text-written : goal.returns-then-text-written
 returns-then-text-written c =
-    let started = boot_done c.boot.ensures.booted (sym c.status.ensures ∙ c.if-status-ne0.false) in
+    let started = boot_done c.boot.ensures.booted (sym c.is_err.ensures.value ∙ c.if-is_err.false) in
     let played = c.play_records-played in
     let given = c.args in
     let journal = given.journal.now in
@@ -32,7 +32,7 @@ returns-then-text-written c =
 
 pub returns : goal.returns
 returns c =
-    let started = boot_done c.boot.ensures.booted (sym c.status.ensures ∙ c.if-status-ne0.false) in
+    let started = boot_done c.boot.ensures.booted (sym c.is_err.ensures.value ∙ c.if-is_err.false) in
     let played = c.play_records-played in
     let given = c.args in
     let journal = given.journal.now in

@@ -13,7 +13,7 @@ use Rattle.capabilities.proofs.CallerLaws.{sized_places, sized_objects, called_s
 use Rattle.delegation.proofs.LiveLinkLaws.{sound_live}
 use Rattle.portals.proofs.PortalLaws.{Lengths, Permitted, source_other, target_other, not_permitted, portal_record, callee_small, receiver_small, calls_itself, other_cpu, too_long, carries}
 use Rattle.portals.proofs.call.Goals as goal
-use Rattle.portals.proofs.call.Goals.{After-bound_by-callee, After-load-2, After-object_place-place, Else-is, Else-load, Else-not-is_permitted, Else-not-payload_fits}
+use Rattle.portals.proofs.call.Goals.{After-bound_by-callee, After-load-2, After-object_place-place, Else-eq, Else-load, Else-not-is_permitted, Else-not-payload_fits}
 
 -- the blocks have their lengths, and the place is the one that the call names
 lengths : (c : After-object_place-place) →
@@ -63,8 +63,8 @@ has_callee : (c : After-bound_by-callee) →
 has_callee c may_use = rw c.bound_by-callee.ensures may_use
 
 -- it is not the caller
-apart : (c : Else-is) → c.bound_by-callee.result.0 ≢ c.args.caller.0
-apart c = eqb-false _ _ (sym c.is.ensures ∙ c.if-is.false)
+apart : (c : Else-eq) → c.bound_by-callee.result.0 ≢ c.args.caller.0
+apart c = eqb-false _ _ (sym c.eq.ensures ∙ c.if-eq.false)
 
 -- both are on one CPU
 one_cpu : (c : Else-load) →
@@ -107,8 +107,8 @@ load-requires-2 c = (
 pub bound_by-callee-requires : goal.bound_by-callee-requires
 bound_by-callee-requires c = callee_small (permits (goal.at.bound_by-callee-requires c).After-load-2)
 
-pub returns-then-is : goal.returns-then-is
-returns-then-is c = calls_itself (has_callee (goal.at.returns-then-is c).After-bound_by-callee (permits (goal.at.returns-then-is c).After-load-2)) (eqb-true _ _ (sym c.is.ensures ∙ c.if-is.true))
+pub returns-then-eq : goal.returns-then-eq
+returns-then-eq c = calls_itself (has_callee (goal.at.returns-then-eq c).After-bound_by-callee (permits (goal.at.returns-then-eq c).After-load-2)) (eqb-true _ _ (sym c.eq.ensures ∙ c.if-eq.true))
 
 pub load-requires-3 : goal.load-requires-3
 load-requires-3 c = (sized_objects c.requires, callee_small (has_callee (goal.at.load-requires-3 c).After-bound_by-callee (permits (goal.at.load-requires-3 c).After-load-2)), omega arith)
@@ -118,7 +118,7 @@ load-requires-4 c = (sized_objects c.requires, caller_small c.requires, omega ar
 
 pub returns-then-load : goal.returns-then-load
 returns-then-load c =
-    other_cpu (has_callee (goal.at.returns-then-load c).After-bound_by-callee (permits (goal.at.returns-then-load c).After-load-2)) (apart (goal.at.returns-then-load c).Else-is)
+    other_cpu (has_callee (goal.at.returns-then-load c).After-bound_by-callee (permits (goal.at.returns-then-load c).After-load-2)) (apart (goal.at.returns-then-load c).Else-eq)
     (λ same. c.if-load.true (c.load-3.ensures ∙ same ∙ sym c.load-4.ensures))
 
 pub bounds-source-0 : goal.bounds-source-0
@@ -126,7 +126,7 @@ bounds-source-0 c = omega (arith, (lengths (goal.at.bounds-source-0 c).After-obj
 
 pub returns-then-not-payload_fits : goal.returns-then-not-payload_fits
 returns-then-not-payload_fits c =
-    too_long (has_callee (goal.at.returns-then-not-payload_fits c).After-bound_by-callee (permits (goal.at.returns-then-not-payload_fits c).After-load-2)) (apart (goal.at.returns-then-not-payload_fits c).Else-is) (one_cpu (goal.at.returns-then-not-payload_fits c).Else-load)
+    too_long (has_callee (goal.at.returns-then-not-payload_fits c).After-bound_by-callee (permits (goal.at.returns-then-not-payload_fits c).After-load-2)) (apart (goal.at.returns-then-not-payload_fits c).Else-eq) (one_cpu (goal.at.returns-then-not-payload_fits c).Else-load)
     (sym c.payload_fits.ensures ∙ not-true _ (ap not c.if-not-payload_fits.true))
 
 pub load-receiver-requires : goal.load-receiver-requires
@@ -145,5 +145,5 @@ message-requires c =
 
 pub returns : goal.returns
 returns c =
-    carries (has_callee (goal.at.returns c).After-bound_by-callee (permits (goal.at.returns c).After-load-2)) (apart (goal.at.returns c).Else-is) (one_cpu (goal.at.returns c).Else-load) (fits (goal.at.returns c).Else-not-payload_fits) c.domain-sender.ensures.0
+    carries (has_callee (goal.at.returns c).After-bound_by-callee (permits (goal.at.returns c).After-load-2)) (apart (goal.at.returns c).Else-eq) (one_cpu (goal.at.returns c).Else-load) (fits (goal.at.returns c).Else-not-payload_fits) c.domain-sender.ensures.0
     c.load-receiver.ensures c.message.ensures

@@ -1,22 +1,25 @@
--- The loop's invariant: what was found is the answer for the records passed. The measure is how many records are left.
-use Prim.Native.Nat.{◌-◌, ◌≤◌}
-use mathlib.Core.Path.{◌≡◌}
-use mathlib.Core.Bool.{◌&&◌}
+-- Each record is asked whether it is the PD of the domain.
+use mathlib.Core.Path.{refl, ◌∙◌}
+use mathlib.Core.Bool.{Bool, ◌&&◌}
+use mathlib.Core.List.{List}
 use borrow.Author.Rules.{rules}
-use Rattle.interface.specs.Places.{kind_of}
+use borrow.Author.Tests.{tests}
+use lib.Dec.{eqb}
+use Prim.Native.Nat.{ℕ}
+use Rattle.std.proofs.lemmas.Iterator.{YieldsList-from_range}
+use Rattle.words.specs.Sizes.{records}
+use Rattle.interface.specs.Places.{PD, kind_word, domain_word, object_at}
 use Rattle.interface.specs.Damage.{has_pd}
-use Rattle.interface.proofs.Basics.LoopLaws.{any_below_zero, any_below_done}
-use Rattle.record_rules.specs.RecordKeeping.{records_in}
-use Rattle.record_rules.proofs.PdLaws.{pd_found}
+use Rattle.objects.proofs.WalkLaws.{fold_any, any_numbers}
 use Rattle.record_rules.proofs.has_pd.Goals as goal
 
-pub loop-at-init : goal.loop-at-init
-loop-at-init c = search (any_below_zero, rules)
-
-pub loop-at-preserved : goal.loop-at-preserved
-loop-at-preserved c =
-    (search rules, pd_found (records_in c.args.objects.now) _ _ _ _ _ c.loop-at.invariant.1 c.kind_of.ensures c.word_of.ensures)
+-- whether a record is the PD of a domain
+abbrev is_its_pd : List ℕ → ℕ → ℕ → Bool
+is_its_pd table domain r = eqb (object_at table r kind_word) PD && eqb (object_at table r domain_word) domain
 
 pub returns : goal.returns
 unfolding has_pd
-returns c = search (any_below_done, rules)
+returns c =
+    let test = is_its_pd c.args.objects.now c.args.domain in
+    fold_any test _ _ _ _ (YieldsList-from_range 0 records records refl refl) c.fold.ensures.ran (λ a x b q k. search (rules, tests)) ∙
+    any_numbers test records

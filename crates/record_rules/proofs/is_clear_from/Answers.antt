@@ -1,20 +1,20 @@
--- The words from the index up to the loop's are 0 or not, as the loop found.
-use Prim.Native.Nat.{◌-◌, ◌≤◌}
-use mathlib.Core.Path.{◌≡◌}
-use mathlib.Core.Bool.{◌||◌}
+-- Each word from the index on is held against 0.
+use lib.Dec.{eqb}
+use mathlib.Core.Path.{refl, ◌∙◌}
 use borrow.Author.Rules.{rules}
+use borrow.Author.Tests.{tests}
+use Rattle.std.proofs.lemmas.Iterator.{YieldsList-from_range}
+use Rattle.words.specs.Sizes.{record_words}
 use Rattle.interface.specs.Places.{object_at}
-use Rattle.record_rules.proofs.RecordTests.{clear_none, clear_more, clear_done}
+use Rattle.record_rules.specs.RecordKeeping.{clear_from}
+use Rattle.objects.proofs.WalkLaws.{fold_all}
+use Rattle.record_rules.proofs.TailLaws.{from_range}
 use Rattle.record_rules.proofs.is_clear_from.Goals as goal
 
-pub loop-at-init : goal.loop-at-init
-loop-at-init c = search (clear_none, rules)
-
-pub loop-at-preserved : goal.loop-at-preserved
-loop-at-preserved c =
-    let given = c.args in
-    let inv = c.loop-at.invariant in
-    (search rules, search rules, clear_more (object_at given.objects.now given.number) _ _ _ _ inv.0 inv.2 c.word_of.ensures)
-
 pub returns : goal.returns
-returns c = search (clear_done, rules)
+unfolding clear_from
+returns c =
+    let given = c.args in
+    fold_all (λ k. eqb (object_at given.objects.now given.number k) 0) _ _ _ _ (YieldsList-from_range given.index record_words _ refl refl) c.fold.ensures.ran
+    (λ a x b q k. search (rules, tests)) ∙
+    from_range record_words given.index (λ k. eqb (object_at given.objects.now given.number k) 0) c.requires.2

@@ -1,7 +1,5 @@
--- The loop's invariant: the count is that of the PDs before the record, and each of these keeps the rule. The measure is how many used records are left.
-use Prim.Native.Nat.{◌-◌, ◌≤◌}
-use mathlib.Core.Path.{◌≡◌, refl, sym, ◌∙◌, ap}
-use mathlib.Core.Logic.{⊎_elim}
+-- The loop's invariant: the count is that of the PDs before the record, and each of these keeps the rule.
+use mathlib.Core.Path.{refl, sym, ◌∙◌, ap}
 use mathlib.Core.Bool.{true, not}
 use native.Mathlib.Omega.{arith}
 use borrow.Author.Rules.{rules}

@@ -1,7 +1,6 @@
--- The loop's invariant: the count is that of the PDs before the record, and each of these keeps the rule. The measure is how many used records are left.
-use Prim.Native.Nat.{◌-◌, ◌≤◌}
-use mathlib.Core.Path.{◌≡◌, ◌∙◌}
-use mathlib.Core.Logic.{⊎_elim}
+-- The loop's invariant: the count is that of the PDs before the record, and each of these keeps the rule.
+use Prim.Native.Nat.{◌≤◌}
+use mathlib.Core.Path.{◌≡◌}
 use mathlib.Core.Bool.{true}
 use Rattle.interface.specs.Basics.{all_below}
 use Rattle.interface.specs.Damage.{pds_below, pd_rule}
@@ -11,6 +10,3 @@ use Rattle.record_rules.proofs.pds_in_turn.Given as goal
 abbrev pub invariant-loop-at : goal.invariant-loop-at
 invariant-loop-at l =
     (l.at ≤ l.used) × (l.before ≡ pds_below (records_in l.objects) l.at) × (all_below l.at (pd_rule (records_in l.objects)) ≡ true)
-
-abbrev pub decreases-loop-at : goal.decreases-loop-at
-decreases-loop-at l = l.used - l.at

@@ -1,6 +1,4 @@
--- The first free record decides all that follow. The loop's invariant: each record passed keeps the rules. The measure is how many records are left.
-use Prim.Native.Nat.{◌-◌, ◌≤◌}
-use mathlib.Core.Path.{◌≡◌}
+-- The first free record decides all that follow. The loop's invariant: each record passed keeps the rules.
 use borrow.Author.Rules.{rules}
 use Rattle.interface.proofs.Basics.LoopLaws.{all_below_none, all_below_more, all_below_done, all_below_broken}
 use Rattle.record_rules.proofs.RestLaws.{free_decides}

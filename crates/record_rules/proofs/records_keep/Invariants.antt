@@ -1,5 +1,5 @@
--- The first free record decides all that follow. The loop's invariant: each record passed keeps the rules. The measure is how many records are left.
-use Prim.Native.Nat.{◌-◌, ◌≤◌}
+-- The first free record decides all that follow. The loop's invariant: each record passed keeps the rules.
+use Prim.Native.Nat.{◌≤◌}
 use mathlib.Core.Path.{◌≡◌}
 use mathlib.Core.Bool.{true}
 use Rattle.words.specs.Sizes.{records}
@@ -9,6 +9,3 @@ use Rattle.record_rules.proofs.records_keep.Given as goal
 
 abbrev pub invariant-loop-at : goal.invariant-loop-at
 invariant-loop-at l = (l.at ≤ records) × (all_below l.at (record_keeps (records_in l.objects)) ≡ true)
-
-abbrev pub decreases-loop-at : goal.decreases-loop-at
-decreases-loop-at l = records - l.at

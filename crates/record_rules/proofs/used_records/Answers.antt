@@ -8,4 +8,4 @@ returns-in_default c = none_free _ _ c.free_record.ensures c.in_default.is
 pub returns : goal.returns
 returns c =
     let found = c.free_record in
-    first_free _ _ found.ensures _ _ c.in-Numbered.is c.number.ensures
+    first_free _ _ found.ensures _ _ c.in-Some.is c.number.ensures

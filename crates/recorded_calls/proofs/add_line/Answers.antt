@@ -6,5 +6,5 @@ use Rattle.recorded_calls.proofs.add_line.Goals as goal
 pub returns : goal.returns
 returns c = let spelt = c.spell in
     let told = line_added c.args.out.now c.args.at c.args.line c.requires spelt.new.out spelt.result (search rules)
-    spelt.ensures.out_after spelt.ensures.value spelt.ensures.prefix_len in
+    spelt.ensures.writes spelt.ensures.size spelt.ensures.fits in
     record { wrote = told.0; upper_bound = told.1 }

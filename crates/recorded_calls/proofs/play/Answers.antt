@@ -14,18 +14,18 @@ returns-then-kind-eq-CALL c =
     let served = c.serve.ensures in
     let is_source = c.source.ensures in
     let is_target = c.target.ensures in
-    let words : Read c.args.body.now c.body_word-caller.result c.body_word-first.result c.body_word-second.result c.body_word-third.result c.body_word-fourth.result
-    c.body_word-fifth.result c.body_word-sixth.result =
+    let words : Read c.args.body.now c.body_word-caller.result c.body_word.result c.body_word-2.result c.body_word-3.result c.body_word-4.result
+    c.body_word-5.result c.body_word-6.result =
     record {
       is_caller = c.body_word-caller.ensures;
-      is_first = c.body_word-first.ensures;
-      is_second = c.body_word-second.ensures;
-      is_third = c.body_word-third.ensures;
-      is_fourth = c.body_word-fourth.ensures;
-      is_fifth = c.body_word-fifth.ensures;
-      is_sixth = c.body_word-sixth.ensures;
+      is_first = c.body_word.ensures;
+      is_second = c.body_word-2.ensures;
+      is_third = c.body_word-3.ensures;
+      is_fourth = c.body_word-4.ensures;
+      is_fifth = c.body_word-5.ensures;
+      is_sixth = c.body_word-6.ensures;
     } in
-    record { objects_after = plays_call words _ served.serves c.if-kind-eq-CALL.true is_source is_target; objects_after_2 = served.objects_after }
+    record { answers = plays_call words _ served.serves c.if-kind-eq-CALL.true is_source is_target; sound_after = served.sound_after }
 
 pub slice_bounds-serve-end-2 : goal.slice_bounds-serve-end-2
 slice_bounds-serve-end-2 c = refl
@@ -36,15 +36,15 @@ slice_bounds-serve-end-3 c = refl
 pub returns : goal.returns
 returns c =
     let served = c.serve-2.ensures in
-    let words : Read c.args.body.now c.body_word-caller.result c.body_word-first.result c.body_word-second.result c.body_word-third.result c.body_word-fourth.result
-    c.body_word-fifth.result c.body_word-sixth.result =
+    let words : Read c.args.body.now c.body_word-caller.result c.body_word.result c.body_word-2.result c.body_word-3.result c.body_word-4.result
+    c.body_word-5.result c.body_word-6.result =
     record {
       is_caller = c.body_word-caller.ensures;
-      is_first = c.body_word-first.ensures;
-      is_second = c.body_word-second.ensures;
-      is_third = c.body_word-third.ensures;
-      is_fourth = c.body_word-fourth.ensures;
-      is_fifth = c.body_word-fifth.ensures;
-      is_sixth = c.body_word-sixth.ensures;
+      is_first = c.body_word.ensures;
+      is_second = c.body_word-2.ensures;
+      is_third = c.body_word-3.ensures;
+      is_fourth = c.body_word-4.ensures;
+      is_fifth = c.body_word-5.ensures;
+      is_sixth = c.body_word-6.ensures;
     } in
-    record { objects_after = plays_other words _ served.serves c.if-kind-eq-CALL.false refl refl; objects_after_2 = served.objects_after }
+    record { answers = plays_other words _ served.serves c.if-kind-eq-CALL.false refl refl; sound_after = served.sound_after }

@@ -11,11 +11,11 @@ returns c =
     let start = c.args in
     let here = tables start.places.now start.objects.now in
     let playing = c.play-reply.ensures in
-    let status = c.status-status.ensures in
-    let answer = c.answer-answer.ensures in
+    let status = c.status.ensures in
+    let answer = c.answer.ensures in
     let line = c.add_line.ensures.wrote in
     record {
-      leaves = ap (λ (p : Answered). p.tables) playing.objects_after ∙ after_one here (recorded_call start.kind start.body.now);
-      still_sound = playing.objects_after_2;
-      writes = line_played here start.index start.kind start.body.now (ap (λ (p : Answered). p.reply) playing.objects_after) status answer line;
+      leaves = ap (λ (p : Answered). p.tables) playing.answers ∙ after_one here (recorded_call start.kind start.body.now);
+      still_sound = playing.sound_after;
+      writes = line_played here start.index start.kind start.body.now (ap (λ (p : Answered). p.reply) playing.answers) status answer line;
     }

@@ -17,7 +17,7 @@ returns-in_default c = mends_pds_broken _ _ c.pds_in_turn.ensures c.in_default.i
 
 pub records_keep-requires : goal.records_keep-requires
 records_keep-requires c =
-    numbered_so _ _ _ c.are_sized.ensures (ap not c.if-not-are_sized.false) _ c.pds_in_turn.ensures c.in-InTurn.is
+    numbered_so _ _ _ c.are_sized.ensures (ap not c.if-not-are_sized.false) _ c.pds_in_turn.ensures c.in-Some.is
 
 pub returns-then-not-records_keep : goal.returns-then-not-records_keep
 returns-then-not-records_keep c = mends_records_broken _ _ c.records_keep.ensures (ap not c.if-not-records_keep.true)
@@ -28,6 +28,6 @@ hypervisor_mends-requires c =
 
 pub returns : goal.returns
 returns c =
-    let numbered = numbered_so _ _ _ c.are_sized.ensures (ap not c.if-not-are_sized.false) _ c.pds_in_turn.ensures c.in-InTurn.is in
+    let numbered = numbered_so _ _ _ c.are_sized.ensures (ap not c.if-not-are_sized.false) _ c.pds_in_turn.ensures c.in-Some.is in
     mends_decide _ _ (answered_yes _ _ c.are_sized.ensures (ap not c.if-not-are_sized.false)) (kept_so numbered _ c.records_keep.ensures (ap not c.if-not-records_keep.false))
     c.hypervisor_mends.ensures

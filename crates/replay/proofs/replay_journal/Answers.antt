@@ -5,4 +5,4 @@ use Rattle.replay.proofs.BufferLaws.{booted_sound}
 use Rattle.replay.proofs.replay_journal.Goals as goal
 
 pub replay_all-progress-requires : goal.replay_all-progress-requires
-replay_all-progress-requires g c = record { objects_value = booted_sound _ _ refl refl c.boot.ensures.objects_after; waits = search rules }
+replay_all-progress-requires g c = record { sound_before = booted_sound _ _ refl refl c.boot.ensures.from_boot; waits = search rules }

@@ -21,16 +21,16 @@ returns-then-is_whole g c =
     let start = line_start_front c.args.progress _ is_whole taken in
     let all = replayed.turn.all_read ∙ length-take-le moved.result moved.new.buffer fits in
     record {
-      inside_2 = inside_whole moved.new.buffer moved.result replayed.inside;
+      inside_after = inside_whole moved.new.buffer moved.result replayed.inside;
       turn =
           turn_whole moved.new.buffer moved.result fits
           {after = tables play.new.places play.new.objects} start (last_front _ _ is_whole taken _) replayed.turn;
       keeps_unplayed =
           record {
-            still = moved_front c.args.input.now moved.new.buffer _ _ c.requires.inside.next c.requires.inside.read moved.ensures.buffer_after;
-            among = omega (arith, all, moved.ensures.value);
+            still = moved_front c.args.input.now moved.new.buffer _ _ c.requires.inside.next c.requires.inside.read moved.ensures.moved;
+            among = omega (arith, all, moved.ensures.size);
           };
-      objects_after = replayed.objects_after;
+      sound_after = replayed.sound_after;
     }
 
 pub returns : goal.returns
@@ -42,18 +42,18 @@ returns g c =
     let play = c.play-2 in
     let replayed = play.ensures in
     let start = line_start_after c.args.progress _ is_whole left in
-    let all = replayed.turn.all_read ∙ length-take-le read.result read.new.buffer read.ensures.lower_bound.1 in
+    let all = replayed.turn.all_read ∙ length-take-le read.result read.new.buffer read.ensures.bounds.1 in
     record {
-      inside_2 = inside_whole read.new.buffer read.result replayed.inside;
+      inside_after = inside_whole read.new.buffer read.result replayed.inside;
       turn =
-          turn_whole read.new.buffer read.result read.ensures.lower_bound.1
-          {after = tables play.new.places play.new.objects} start (last_after_lem _ _ is_whole left _ _ _ all moved.ensures.value) replayed.turn;
+          turn_whole read.new.buffer read.result read.ensures.bounds.1
+          {after = tables play.new.places play.new.objects} start (last_after_lem _ _ is_whole left _ _ _ all moved.ensures.size) replayed.turn;
       keeps_unplayed =
           record {
             still =
-                (rw moved.ensures.value at read.ensures.buffer_unchanged) ∙
-                moved_front c.args.input.now moved.new.buffer _ _ c.requires.inside.next c.requires.inside.read moved.ensures.buffer_after;
-            among = omega (arith, all, moved.ensures.value, read.ensures.lower_bound.0);
+                (rw moved.ensures.size at read.ensures.kept_bytes) ∙
+                moved_front c.args.input.now moved.new.buffer _ _ c.requires.inside.next c.requires.inside.read moved.ensures.moved;
+            among = omega (arith, all, moved.ensures.size, read.ensures.bounds.0);
           };
-      objects_after = replayed.objects_after;
+      sound_after = replayed.sound_after;
     }

@@ -8,7 +8,7 @@ use Rattle.descriptor.specs.Descriptors.{Proper, reading}
 use Rattle.descriptor.proofs.DescriptorLaws.{reading_kept, good_proper, proper_order}
 use Rattle.descent.proofs.LinkLaws.{sound_linked}
 use Rattle.capabilities.proofs.CallerLaws.{sized_places, called_sound}
-use Rattle.revocation.proofs.RevokeLaws.{Aimed, aims, range_in_space, self_refused, malformed_refused, null_revokes, mask_refused, range_revokes}
+use Rattle.revocation.proofs.RevokeLaws.{Aimed, aims, range_ends, range_in_space, self_refused, malformed_refused, null_revokes, mask_refused, range_revokes}
 use Rattle.revocation.proofs.revoke.Goals as goal
 use Rattle.revocation.proofs.revoke.Goals.{After-mask, After-read}
 
@@ -48,6 +48,10 @@ of-first-requires c = (
 
 pub size-size-requires : goal.size-size-requires
 size-size-requires c = omega (arith, c.order.ensures, proper_order (is_proper (goal.at.size-size-requires c).After-read c.in-Good.is))
+
+pub invariant_of-cut : goal.invariant_of-cut
+invariant_of-cut c =
+    record { ends = range_ends (is_aimed (goal.at.invariant_of-cut c).After-mask) (is_proper (goal.at.invariant_of-cut c).After-read c.in-Good.is) c.domain-domain.ensures.1 }
 
 pub cut-requires : goal.cut-requires
 cut-requires c =

@@ -8,7 +8,7 @@ use borrow.Author.Tests.{not-true, not-false}
 use Rattle.words.specs.Sizes.{records}
 use Rattle.interface.specs.Places.{Cap}
 use Rattle.capabilities.proofs.CallerLaws.{sized_places, sized_objects}
-use Rattle.semaphores.proofs.SemaphoreLaws.{named, Allowed, Counted, unknown_operation, not_permitted, semaphore_record, full, raised, empty, lowered}
+use Rattle.semaphores.proofs.SemaphoreLaws.{known_operation, is_up, is_down, named, Allowed, Counted, unknown_operation, not_permitted, semaphore_record, full, raised, empty, lowered}
 use Rattle.semaphores.proofs.sm_ctrl.Goals as goal
 use Rattle.semaphores.proofs.sm_ctrl.Goals.{After-load-count, After-named_by-number, After-object_place-place, Else-not-is_permitted}
 
@@ -25,9 +25,9 @@ passes : (c : Else-not-is_permitted) →
 passes c =
     record {
       called = c.requires;
-      known = omega arith;
+      known = known_operation _ c.in-Ok.operation c.in-Ok.ensures;
       is_place = is_named (goal.at.Else-not-is_permitted c).After-object_place-place;
-      allowed = sym c.is_permitted.ensures ∙ not-false _ (ap not c.if-not-is_permitted.false);
+      allowed = rw (c.number.ensures, c.in-Ok.ensures) at (sym c.is_permitted.ensures ∙ not-false _ (ap not c.if-not-is_permitted.false));
     }
 
 -- the semaphore's number is a record's
@@ -46,17 +46,18 @@ counted c =
       is_value = c.load-count.ensures;
     }
 
-pub returns-then-operation-gt-DOWN : goal.returns-then-operation-gt-DOWN
-returns-then-operation-gt-DOWN c = search (unknown_operation, rules)
+pub returns-in_default : goal.returns-in_default
+returns-in_default c = unknown_operation c.requires c.in_default.ensures
 
 pub is_permitted-requires : goal.is_permitted-requires
 is_permitted-requires c =
     let called = c.requires in
-    (sized_places called, sized_objects called, c.object_place-place.ensures.1, omega arith)
+    (sized_places called, sized_objects called, c.object_place-place.ensures.1, omega (arith, c.number.ensures, c.in-Ok.ensures, known_operation _ c.in-Ok.operation c.in-Ok.ensures))
 
 pub returns-then-not-is_permitted : goal.returns-then-not-is_permitted
 returns-then-not-is_permitted c =
-    not_permitted (search rules) (omega arith) (is_named (goal.at.returns-then-not-is_permitted c).After-object_place-place) (sym c.is_permitted.ensures ∙ not-true _ (ap not c.if-not-is_permitted.true))
+    not_permitted c.requires (known_operation _ c.in-Ok.operation c.in-Ok.ensures) (is_named (goal.at.returns-then-not-is_permitted c).After-object_place-place)
+    (rw (c.number.ensures, c.in-Ok.ensures) at (sym c.is_permitted.ensures ∙ not-true _ (ap not c.if-not-is_permitted.true)))
 
 pub load-requires : goal.load-requires
 load-requires c = search (sized_places, rules)
@@ -68,21 +69,22 @@ pub load-count-requires : goal.load-count-requires
 load-count-requires c = (sized_objects (passes (goal.at.load-count-requires c).Else-not-is_permitted).called, is_record (goal.at.load-count-requires c).After-named_by-number, omega arith)
 
 pub returns-then-count : goal.returns-then-count
-returns-then-count c = full (counted (goal.at.returns-then-count c).After-load-count) c.if-operation-eq-UP.true c.if-count.true
+returns-then-count c = full (counted (goal.at.returns-then-count c).After-load-count) (is_up c.in-Up.is c.in-Ok.ensures) c.if-count.true
 
 pub set_count-requires : goal.set_count-requires
 set_count-requires c = (sized_objects (counted (goal.at.set_count-requires c).After-load-count).call.called, is_record (goal.at.set_count-requires c).After-named_by-number)
 
-pub returns-then-operation-eq-UP : goal.returns-then-operation-eq-UP
-returns-then-operation-eq-UP c =
-    raised (counted (goal.at.returns-then-operation-eq-UP c).After-load-count) c.if-operation-eq-UP.true (omega arith) c.set_count.ensures
+pub returns-else-count : goal.returns-else-count
+returns-else-count c =
+    raised (counted (goal.at.returns-else-count c).After-load-count) (is_up c.in-Up.is c.in-Ok.ensures) (omega arith) c.set_count.ensures
 
 pub returns-then-count-eq0 : goal.returns-then-count-eq0
-returns-then-count-eq0 c = empty (counted (goal.at.returns-then-count-eq0 c).After-load-count) c.if-operation-eq-UP.false c.if-count-eq0.true
+returns-then-count-eq0 c = empty (counted (goal.at.returns-then-count-eq0 c).After-load-count) (is_down c.in-Down.is c.in-Ok.ensures) c.if-count-eq0.true
 
-pub set_count-requires-2 : goal.set_count-requires-2
-set_count-requires-2 c = (sized_objects (counted (goal.at.set_count-requires-2 c).After-load-count).call.called, is_record (goal.at.set_count-requires-2 c).After-named_by-number)
+pub set_count-requires-in-Down : goal.set_count-requires-in-Down
+set_count-requires-in-Down c = (sized_objects (counted (goal.at.set_count-requires-in-Down c).After-load-count).call.called, is_record (goal.at.set_count-requires-in-Down c).After-named_by-number)
 
-pub returns : goal.returns
-returns c =
-    lowered (counted (goal.at.returns c).After-load-count) c.if-operation-eq-UP.false c.if-count-eq0.false c.set_count-2.ensures
+pub returns-else-count-eq0 : goal.returns-else-count-eq0
+returns-else-count-eq0 c =
+    lowered (counted (goal.at.returns-else-count-eq0 c).After-load-count) (is_down c.in-Down.is c.in-Ok.ensures) c.if-count-eq0.false
+    c.set_count-in-Down.ensures

@@ -1,5 +1,5 @@
--- The loop's invariant: the fault of the tables is the first among the rules from this one on. The measure is how many rules are left.
-use Prim.Native.Nat.{◌+◌, ◌-◌, ◌≤◌}
+-- The loop's invariant: the fault of the tables is the first among the rules from this one on.
+use Prim.Native.Nat.{◌+◌, ◌≤◌}
 use mathlib.Core.Path.{◌≡◌}
 use Rattle.interface.specs.Places.{tables, view}
 use Rattle.interface.specs.Damage.{first_fault, fault}
@@ -9,6 +9,3 @@ use Rattle.soundness.proofs.first_fault.Given as goal
 
 abbrev pub invariant-loop-rule : goal.invariant-loop-rule
 invariant-loop-rule l = (first_rule ≤ l.rule) × (l.rule ≤ last_rule + 1) × (fault (tables l.places l.objects) ≡ first_fault (view l.places l.objects) (rules_from l.rule))
-
-abbrev pub decreases-loop-rule : goal.decreases-loop-rule
-decreases-loop-rule l = last_rule + 1 - l.rule

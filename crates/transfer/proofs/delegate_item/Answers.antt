@@ -5,9 +5,9 @@ use Rattle.transfer.proofs.delegate_item.Goals as goal
 
 pub returns-then-filled-eq0 : goal.returns-then-filled-eq0
 returns-then-filled-eq0 c = rw c.null_item.ensures
-    (delegated_none c.args.sender c.args.receiver c.args.second c.args.item c.args.window c.source_domain.ensures.0
+    (delegated_none c.args.sender c.args.receiver c.args.second c.args.pair.item c.args.pair.window c.source_domain.ensures.0
     (omega arith) c.delegate-filled.ensures c.if-filled-eq0.true)
 
 pub returns : goal.returns
-returns c = delegated_some c.args.sender c.args.receiver c.args.second c.args.item c.args.window c.source_domain.ensures.0
-    (omega arith) c.delegate-filled.ensures c.requires.3 c.if-filled-eq0.false c.destination.ensures
+returns c = delegated_some c.args.sender c.args.receiver c.args.second c.args.pair.item c.args.pair.window c.source_domain.ensures.0
+    (omega arith) c.delegate-filled.ensures c.args.pair.matched c.if-filled-eq0.false c.destination.ensures

@@ -7,6 +7,4 @@ use Rattle.translation.proofs.nearest_in.Goals as goal
 
 pub returns : goal.returns
 returns c =
-    let first_is = rw c.first_of.ensures at c.ancestor.ensures in
-    c.linked.ensures ∙
-    ap linked (first_is ∙ sym (nearest_first_among (cap_at c.args.table.now) c.args.domain c.args.place.0))
+    rw c.first_of.ensures at c.ancestor.ensures ∙ ap linked (sym (nearest_first_among (cap_at c.args.table.now) c.args.domain c.args.place.0))

@@ -18,7 +18,7 @@ returns-then-done-input c =
         past_count = λ past. (refl, refl);
         still_last = refl;
       };
-      objects_after = search rules;
+      sound_after = search rules;
     }
 
 pub returns : goal.returns
@@ -35,5 +35,5 @@ returns c =
         past_count = λ past. absurd (omega arith);
         still_last = refl;
       };
-      objects_after = played.objects_after;
+      sound_after = played.sound_after;
     }

@@ -8,13 +8,13 @@ use Rattle.windows.proofs.WindowLaws.{is_destination}
 use Rattle.windows.proofs.destination.Goals as goal
 
 pub offset-requires : goal.offset-requires
-offset-requires c = search (proper_order c.requires.window_proper, rules)
+offset-requires c = search (proper_order c.args.pair.matched.window_proper, rules)
 
 pub at-base-requires : goal.at-base-requires
-at-base-requires c = let ends : c.offset.result + 2 ^ c.smaller-order.result ≤ 2 ^ c.args.window.order = rw c.order-window_order.ensures at c.offset.ensures.1 in
-    (c.requires.window_proper, omega (arith, pow_pos c.smaller-order.result))
+at-base-requires c = let ends : c.offset.result + 2 ^ c.min-order.result ≤ 2 ^ c.args.pair.window.order = rw c.order-window_order.ensures at c.offset.ensures.1 in
+    (c.args.pair.matched.window_proper, omega (arith, pow_pos c.min-order.result))
 
 pub returns : goal.returns
-returns c = is_destination c.args.hotspot c.args.item c.args.window c.order.ensures c.order-window_order.ensures
-    c.smaller-order.ensures c.offset.ensures c.at-base.ensures c.space.ensures c.mask.ensures
+returns c = is_destination c.args.hotspot c.args.pair.item c.args.pair.window c.order.ensures c.order-window_order.ensures
+    c.min-order.ensures c.offset.ensures c.at-base.ensures c.space.ensures c.mask.ensures
     c.of.ensures

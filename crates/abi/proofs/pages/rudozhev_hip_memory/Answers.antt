@@ -2,10 +2,10 @@
 use Rattle.abi.proofs.PagePackingLaws.{reads_no_memory, reads_memory}
 use Rattle.abi.proofs.pages.rudozhev_hip_memory.Goals as goal
 
-pub returns-in-Nothing : goal.returns-in-Nothing
-returns-in-Nothing c = let start = c.args in
-    reads_no_memory start.page.now start.numbers.now start.index _ c.memory-found.ensures c.in-Nothing.is
+pub returns-in-None : goal.returns-in-None
+returns-in-None c = let start = c.args in
+    reads_no_memory start.page.now start.numbers.now start.index _ c.memory.ensures c.in-None.is
 
-pub returns-in-At : goal.returns-in-At
-returns-in-At c = let start = c.args in
-    reads_memory start.page.now start.numbers.now start.index _ _ c.memory-found.ensures c.in-At.is
+pub returns-in-Some : goal.returns-in-Some
+returns-in-Some c = let start = c.args in
+    reads_memory start.page.now start.numbers.now start.index _ _ c.memory.ensures c.in-Some.is

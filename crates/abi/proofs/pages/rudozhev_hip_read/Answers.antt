@@ -6,18 +6,18 @@ use Rattle.abi.proofs.pages.rudozhev_hip_read.Goals as goal
 
 pub overflow_mul-result : goal.overflow_mul-result
 overflow_mul-result c = let bytes = c.args.page.now in
-    let page = accepts bytes _ _ c.read-found.ensures c.in-Accepted.is in
+    let page = accepts bytes _ _ c.read.ensures c.in-Ok.is in
     omega (arith, page, short_page bytes _ (λ i. (c.type_inv.page i).fits) page)
 
 pub overflow_add-result : goal.overflow_add-result
 overflow_add-result c = let bytes = c.args.page.now in
-    let page = accepts bytes _ _ c.read-found.ensures c.in-Accepted.is in
+    let page = accepts bytes _ _ c.read.ensures c.in-Ok.is in
     omega (arith, page, short_page bytes _ (λ i. (c.type_inv.page i).fits) page)
 
-pub returns-in-Refused : goal.returns-in-Refused
-returns-in-Refused c = let start = c.args in
-    reads_refused start.page.now start.fields.now _ _ _ (refuses start.page.now _ _ c.read-found.ensures c.in-Refused.is) c.number.ensures c.join.ensures
+pub returns-in-Err : goal.returns-in-Err
+returns-in-Err c = let start = c.args in
+    reads_refused start.page.now start.fields.now _ _ _ (refuses start.page.now _ _ c.read.ensures c.in-Err.is) c.from.ensures c.join.ensures
 
-pub returns-in-Accepted : goal.returns-in-Accepted
-returns-in-Accepted c = let start = c.args in
-    rw c.fields.ensures (reads_accepted start.page.now start.fields.now _ (accepts start.page.now _ _ c.read-found.ensures c.in-Accepted.is))
+pub returns-in-Ok : goal.returns-in-Ok
+returns-in-Ok c = let start = c.args in
+    rw c.fields.ensures (reads_accepted start.page.now start.fields.now _ (accepts start.page.now _ _ c.read.ensures c.in-Ok.is))

@@ -8,5 +8,5 @@ use Rattle.layout.proofs.ObjectNumber.found.Goals as goal
 pub returns-then-word-lt-RECORDS : goal.returns-then-word-lt-RECORDS
 returns-then-word-lt-RECORDS c = let inside : c.args.word < records = omega arith in rw numbered_so
 
-pub returns-else-word-lt-RECORDS : goal.returns-else-word-lt-RECORDS
-returns-else-word-lt-RECORDS c = let outside : records ≤ c.args.word = omega arith in rw numbered_beyond
+pub returns : goal.returns
+returns c = let outside : records ≤ c.args.word = omega arith in rw numbered_beyond

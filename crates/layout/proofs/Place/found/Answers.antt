@@ -8,5 +8,5 @@ use Rattle.layout.proofs.Place.found.Goals as goal
 pub returns-then-word-lt-PLACES : goal.returns-then-word-lt-PLACES
 returns-then-word-lt-PLACES c = let inside : c.args.word < places = omega arith in rw placed_at
 
-pub returns-else-word-lt-PLACES : goal.returns-else-word-lt-PLACES
-returns-else-word-lt-PLACES c = let outside : places ≤ c.args.word = omega arith in rw placed_nowhere
+pub returns : goal.returns
+returns c = let outside : places ≤ c.args.word = omega arith in rw placed_nowhere

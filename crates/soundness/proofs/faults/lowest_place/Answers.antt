@@ -1,19 +1,17 @@
--- The loop's invariant: each place passed keeps the rule. The measure is how many places are left.
-use Prim.Native.Nat.{◌-◌, ◌≤◌}
-use mathlib.Core.Path.{◌≡◌}
+-- The search finds the lowest place that breaks the rule.
+use mathlib.Core.Path.{refl}
+use mathlib.Core.Bool.{Bool, not}
+use Prim.Native.Nat.{ℕ}
 use borrow.Author.Rules.{rules}
-use Rattle.interface.proofs.Basics.LoopLaws.{all_below_none, all_below_more}
-use Rattle.soundness.proofs.LowestLaws.{lowest_first, lowest_none}
+use borrow.Author.Tests.{tests}
+use Rattle.words.specs.Sizes.{places}
+use Rattle.interface.specs.Places.{shown}
+use Rattle.objects.proofs.WalkLaws.{find_lowest}
+use Rattle.soundness.specs.RuleNumbers.{rule_of}
+use Rattle.soundness.proofs.LowestLaws.{found_failing}
 use Rattle.soundness.proofs.faults.lowest_place.Goals as goal
 
-pub loop-at-init : goal.loop-at-init
-loop-at-init c = search (all_below_none, rules)
-
-pub returns-then-not-place_keeps_rule : goal.returns-then-not-place_keeps_rule
-returns-then-not-place_keeps_rule c = search (lowest_first, rules)
-
-pub loop-at-preserved : goal.loop-at-preserved
-loop-at-preserved c = search (all_below_more, rules)
-
 pub returns : goal.returns
-returns c = search (lowest_none, rules)
+returns c =
+    let keeps : ℕ → Bool = (rule_of c.args.rule).place_keeps_lem (shown (record { places = c.args.table.now; objects = c.args.objects.now })) in
+    found_failing places keeps _ (find_lowest (λ p. not (keeps p)) _ _ _ _ refl c.find.ensures.ran (λ x b q k. search (rules, tests)))

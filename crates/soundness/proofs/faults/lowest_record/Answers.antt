@@ -1,19 +1,17 @@
--- The loop's invariant: each record passed keeps the rule. The measure is how many records are left.
-use Prim.Native.Nat.{◌-◌, ◌≤◌}
-use mathlib.Core.Path.{◌≡◌}
+-- The search finds the lowest record that breaks the rule.
+use mathlib.Core.Path.{refl}
+use mathlib.Core.Bool.{Bool, not}
+use Prim.Native.Nat.{ℕ}
 use borrow.Author.Rules.{rules}
-use Rattle.interface.proofs.Basics.LoopLaws.{all_below_none, all_below_more}
-use Rattle.soundness.proofs.LowestLaws.{lowest_first, lowest_none}
+use borrow.Author.Tests.{tests}
+use Rattle.words.specs.Sizes.{records}
+use Rattle.objects.proofs.WalkLaws.{find_lowest}
+use Rattle.record_rules.specs.RecordKeeping.{records_in}
+use Rattle.soundness.specs.RuleNumbers.{rule_of}
+use Rattle.soundness.proofs.LowestLaws.{found_failing}
 use Rattle.soundness.proofs.faults.lowest_record.Goals as goal
 
-pub loop-at-init : goal.loop-at-init
-loop-at-init c = search (all_below_none, rules)
-
-pub returns-then-not-record_keeps_rule : goal.returns-then-not-record_keeps_rule
-returns-then-not-record_keeps_rule c = search (lowest_first, rules)
-
-pub loop-at-preserved : goal.loop-at-preserved
-loop-at-preserved c = search (all_below_more, rules)
-
 pub returns : goal.returns
-returns c = search (lowest_none, rules)
+returns c =
+    let keeps : ℕ → Bool = (rule_of c.args.rule).record_keeps_lem (records_in c.args.objects.now) in
+    found_failing records keeps _ (find_lowest (λ r. not (keeps r)) _ _ _ _ refl c.find.ensures.ran (λ x b q k. search (rules, tests)))

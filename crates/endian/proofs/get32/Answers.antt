@@ -1,7 +1,0 @@
--- The bytes at a place are the part there.
-use Rattle.endian.proofs.NumberLaws.{number_of_four}
-use borrow.Author.Rules.{rules}
-use Rattle.endian.proofs.get32.Goals as goal
-
-pub returns : goal.returns
-returns c = search (number_of_four, rules)

@@ -1,7 +1,0 @@
--- A list has nothing past its end.
-use mathlib.Core.Path.{sym}
-use lib.ListN.{get_or-eq_default}
-use Rattle.journal_records.proofs.byte.Goals as goal
-
-pub returns : goal.returns
-returns c = sym (get_or-eq_default c.args.bytes.now 0 c.if-at-bytes.false)

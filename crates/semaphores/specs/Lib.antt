@@ -1,0 +1,2 @@
+-- What the contracts of SM_CTRL's function cite.
+pub mod Operations
