@@ -13,7 +13,7 @@ use steps::Machine;
 
 // The root gets an EC to receive from the hypervisor with, and makes the four domains, of which each but the last can call the next one.
 fn set_up(machine: &mut Machine) {
-    machine.chapter("THE MACHINE AND ITS DOMAINS");
+    machine.chapter("THE MACHINE AND ITS DOMAINS\n");
     machine.boot();
     machine.make_receiver();
     machine.make_domain(Domain::Operating);
@@ -27,7 +27,7 @@ fn set_up(machine: &mut Machine) {
 
 // What the root takes, and what is lent of it: the shutter's ports, the lamp's port, which has nothing to do with them, and the page of the spectrum.
 fn lending(machine: &mut Machine) {
-    machine.chapter("\nWHAT IS LENT");
+    machine.chapter("\nWHAT IS LENT\n");
     machine.take(Thing::Shutter);
     machine.take(Thing::Lamp);
     machine.take(Thing::Spectrum);
@@ -42,9 +42,9 @@ fn lending(machine: &mut Machine) {
 
 // The mistake of the incident is a lookup where the root has nothing, right after the lamp's port, and a revoke of what it answers. All have the ports after it as before.
 fn mistake(machine: &mut Machine) {
-    machine.chapter("\nWHO HAS THE SHUTTER'S PORTS");
+    machine.chapter("\nWHO HAS THE SHUTTER'S PORTS\n");
     machine.name_shutter_heirs(Domain::Root);
-    machine.chapter("\nA LOOKUP BESIDE THEM, AND A REVOKE OF ITS ANSWER");
+    machine.chapter("\nA LOOKUP BESIDE THEM, AND A REVOKE OF ITS ANSWER\n");
     machine.look_at(Domain::Test, Thing::Shutter);
     machine.look_before_them(Domain::Test);
     machine.look_after_lamp(Domain::Test);
@@ -55,7 +55,7 @@ fn mistake(machine: &mut Machine) {
 
 // A revoke with mask 0 would take nothing, and is refused. The right way is a lookup of the shutter's ports, and a revoke of their range.
 fn recovery(machine: &mut Machine) {
-    machine.chapter("\nTHE REVOKE OF THE PORTS");
+    machine.chapter("\nTHE REVOKE OF THE PORTS\n");
     machine.revoke_for_a_year();
     machine.look_at(Domain::Root, Thing::Shutter);
     machine.revoke_shutter();
@@ -63,7 +63,7 @@ fn recovery(machine: &mut Machine) {
 
 // The domains find nothing where they had the ports. The root's own are still there, and so is what was lent beside them.
 fn rest(machine: &mut Machine) {
-    machine.chapter("\nWHAT IS LEFT");
+    machine.chapter("\nWHAT IS LEFT\n");
     machine.name_shutter_heirs(Domain::Root);
     machine.look_for_shutter(Domain::Operating);
     machine.look_for_shutter(Domain::Service);
@@ -77,12 +77,12 @@ fn rest(machine: &mut Machine) {
 
 // Every domain that had the shutter's ports tries to lend them on, and the last one the lamp's port. The census of the hypervisor's places names all who have the ports then.
 fn aftermath(machine: &mut Machine) {
-    machine.chapter("\nLENDING ON WHAT IS LEFT");
+    machine.chapter("\nLENDING ON WHAT IS LEFT\n");
     machine.lend_again(Domain::Operating, Thing::Shutter, Domain::Service);
     machine.lend_again(Domain::Service, Thing::Them, Domain::Test);
     machine.lend(Domain::Test, Thing::Them, Domain::Spare);
     machine.lend(Domain::Test, Thing::Lamp, Domain::Spare);
-    machine.chapter("\nWHO HAS THE SHUTTER'S PORTS NOW");
+    machine.chapter("\nWHO HAS THE SHUTTER'S PORTS NOW\n");
     machine.name_shutter_heirs(Domain::Hypervisor);
 }
 

@@ -143,6 +143,31 @@ impl fmt::Display for Domain {
     }
 }
 
+// A domain as a sentence goes on with it.
+#[derive(Clone, Copy)]
+pub(crate) struct The {
+    pub(crate) domain: Domain,
+}
+
+impl fmt::Display for The {
+    fn fmt<W: fmt::Write>(&self, f: &mut fmt::Formatter<W>) -> fmt::Result {
+        write!(f, " the {}", self.domain)
+    }
+}
+
+// A domain as the one that something is given to.
+#[derive(Clone, Copy)]
+pub(crate) struct To {
+    pub(crate) domain: Domain,
+}
+
+impl fmt::Display for To {
+    fn fmt<W: fmt::Write>(&self, f: &mut fmt::Formatter<W>) -> fmt::Result {
+        let domain = self.domain;
+        write!(f, " to{}", The { domain })
+    }
+}
+
 // What the story calls a thing.
 impl fmt::Display for Thing {
     fn fmt<W: fmt::Write>(&self, f: &mut fmt::Formatter<W>) -> fmt::Result {

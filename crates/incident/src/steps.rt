@@ -2,7 +2,7 @@
 ghost use Rattle.std.specs.Prelude.{◌<◌};
 ghost use Rattle.words.specs.Sizes.{io, selectors, spaces};
 
-use crate::spectrometer::{Domain, PAGE, SHUTTER_PORTS, Thing, ports_with_mask_0};
+use crate::spectrometer::{Domain, PAGE, SHUTTER_PORTS, The, Thing, To, ports_with_mask_0};
 use crate::telling;
 use crate::telling::{say, say_done, say_places};
 use reply::Reply;
@@ -46,7 +46,7 @@ impl Machine {
 
     // A chapter begins.
     pub(crate) fn chapter(&mut self, title: &str) {
-        say(self.out, format_args!("{title}\n"));
+        say(self.out, title);
     }
 
     // The machine boots.
@@ -69,7 +69,7 @@ impl Machine {
     // The root makes a domain: its PD, an EC in it and a portal to that EC.
     pub(crate) fn make_domain(&mut self, domain: Domain) {
         let portal = domain.portal();
-        say(self.out, format_args!("The root makes the {domain}: "));
+        say(self.out, format_args!("The root makes{}: ", The { domain }));
         let made = requests::create_pd(portal - 2, &mut self.places, &mut self.objects);
         say_done(self.out, made);
         say(self.out, "  an EC in it: ");
@@ -90,14 +90,14 @@ impl Machine {
             &mut self.places,
             &mut self.objects,
         );
-        say_places(self.out, reply, " filled");
+        say_places(self.out, reply, " filled\n");
     }
 
     // The root lends a domain the portal to the next one.
     pub(crate) fn connect(&mut self, domain: Domain, next: Domain) {
         say(
             self.out,
-            format_args!("The {domain} gets a portal to the {next}: "),
+            format_args!("The {domain} gets a portal{}: ", To { domain: next }),
         );
         let onward = requests::single(sizes::OBJECT, next.portal());
         self.lend_range(boot::ROOT_EC, domain.portal(), onward, onward);
@@ -105,11 +105,12 @@ impl Machine {
 
     // The root takes a thing of the hypervisor's.
     pub(crate) fn take(&mut self, thing: Thing) {
-        say(self.out, format_args!("The root takes {thing}: "));
-        let range = Domain::Root.range_of(thing);
-        let portal = Domain::Root.portal();
+        let root = Domain::Root;
+        say(self.out, format_args!("The {root} takes {thing}: "));
+        let range = root.range_of(thing);
+        let portal = root.portal();
         let reply = messages::take(portal, range, &mut self.places, &mut self.objects);
-        say_places(self.out, reply, " filled");
+        say_places(self.out, reply, " filled\n");
     }
 
     // Lends a thing of a domain's to the next one.
@@ -127,7 +128,7 @@ impl Machine {
         let on = if domain == Domain::Root { "" } else { " on" };
         say(
             self.out,
-            format_args!("The {domain} lends {thing}{on} to the {next}: "),
+            format_args!("The {domain} lends {thing}{on}{}: ", To { domain: next }),
         );
         self.lend_thing(domain, thing, next);
     }
@@ -227,14 +228,14 @@ impl Machine {
         say(self.out, "It does so each night for a year: ");
         say(
             self.out,
-            format_args!("REFUSED {refused} times of {NIGHTS}, and "),
+            format_args!("REFUSED {refused} times of {NIGHTS}"),
         );
         say(
             self.out,
             if self.places == places && self.objects == objects {
-                "no word of the tables changed\n"
+                ", and no word of the tables changed\n"
             } else {
-                "THE TABLES CHANGED\n"
+                ", and THE TABLES CHANGED\n"
             },
         );
     }
@@ -254,7 +255,7 @@ impl Machine {
         telling::say_place(self.out, place);
         say(self.out, ": lent to ");
         let reply = kernel::census(place, &self.places, &self.objects, &mut list);
-        say_places(self.out, reply, "");
+        say_places(self.out, reply, "\n");
         telling::say_list(self.out, &list, reply::answer(reply));
     }
 

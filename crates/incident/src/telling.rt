@@ -8,7 +8,7 @@ use layout::Place;
 use reply::Reply;
 use std::fmt;
 use std::fmt::Display;
-use std::io::{Stdout, Write};
+use std::io::Stdout;
 use words::{ranges, sizes};
 
 // So many of a thing.
@@ -21,7 +21,7 @@ struct Counted {
 impl Display for Counted {
     fn fmt<W: fmt::Write>(&self, f: &mut fmt::Formatter<W>) -> fmt::Result {
         let plural = if self.count == 1 { "" } else { "s" };
-        write!(f, "{} {}{plural}", self.count, self.thing)
+        write!(f, "{}{}{plural}", self.count, self.thing)
     }
 }
 
@@ -35,17 +35,30 @@ struct Position {
 impl Display for Position {
     fn fmt<W: fmt::Write>(&self, f: &mut fmt::Formatter<W>) -> fmt::Result {
         let space = match self.space {
-            sizes::MEMORY => "memory",
-            sizes::IO => "I/O",
-            _ => "object",
+            sizes::MEMORY => "memory selector ",
+            sizes::IO => "I/O selector ",
+            _ => "object selector ",
         };
-        write!(f, "{space} selector {}", self.number)
+        write!(f, "{space}{}", self.number)
+    }
+}
+
+// Standard output, on which each phrase of a text is written by itself: one that cannot be written keeps none of the next ones back.
+#[derive(Drop)]
+struct Phrases {
+    out: Stdout,
+}
+
+impl fmt::Write for Phrases {
+    fn write_str(&mut self, phrase: &str) -> fmt::Result {
+        let _ = self.out.write_all(phrase.as_bytes());
+        Ok(())
     }
 }
 
 // Writes a text.
-pub(crate) fn say<D: Display + Drop>(mut out: Stdout, text: D) {
-    let _ = out.write_fmt(text);
+pub(crate) fn say<D: Display + Drop>(out: Stdout, text: D) {
+    let _ = fmt::Write::write(&mut Phrases { out }, text);
 }
 
 // Begins a line with a selector of a space.
@@ -70,9 +83,9 @@ pub(crate) fn say_places(out: Stdout, reply: Reply, what: &str) {
     if let Ok(count) = reply {
         let places = Counted {
             count,
-            thing: "place",
+            thing: " place",
         };
-        say(out, format_args!("{places}{what}\n"));
+        say(out, format_args!("{places}{what}"));
     } else {
         say_done(out, reply);
     }
@@ -107,9 +120,9 @@ fn say_range(out: Stdout, range: Range)
     requires { Proper range }
 {
     let thing = match range.space() {
-        sizes::MEMORY => "page",
-        sizes::IO => "port",
-        _ => "object",
+        sizes::MEMORY => " page",
+        sizes::IO => " port",
+        _ => " object",
     };
     let count = ranges::size(range.order());
     let resources = Counted { count, thing };
