@@ -45,8 +45,8 @@ module _ {caps : ℕ → Cap} {place : ℕ} {found : (Option Place)} (links : Li
   no_parent : found ≡ None → (caps place).parent ≡ 0
   no_parent none = linked_out word (sym is_found ∙ none) word_small
 
-  pub walk_ends : (first size : ℕ) → found ≡ None → None ≡ linked (first_among first size (ancestors caps place))
-  unfolding first_among linked
+  pub walk_ends : (first size : ℕ) → found ≡ None → 0 ≡ first_among first size (ancestors caps place)
+  unfolding first_among
   walk_ends first size none = rw (ancestors_none caps place (no_parent none))
 
   -- a place without a parent is below none
@@ -72,15 +72,12 @@ module _ {caps : ℕ → Cap} {place : ℕ} {found : (Option Place)} (links : Li
     walk_on = ancestors_child caps place above.0 parent_word (omega (arith, links.parent_depth place above.0 small parent_word))
 
     module _ (first size : ℕ) {inside : Bool} (is_inside : inside ≡ among first size above.0) where
-      found_first : inside ≡ true → word ≡ first_among first size (ancestors caps place)
+      pub walk_finds : inside ≡ true → word ≡ first_among first size (ancestors caps place)
       unfolding first_among
-      found_first t = rw (walk_on, sym is_inside ∙ t) leads_there.0
+      walk_finds t = rw (walk_on, sym is_inside ∙ t) leads_there.0
 
-      pub walk_finds : inside ≡ true → Some above ≡ linked (first_among first size (ancestors caps place))
-      walk_finds t = sym leads ∙ is_found ∙ ap linked (found_first t)
-
-      pub walk_passes : {r : (Option Place)} → inside ≡ false → r ≡ linked (first_among first size (ancestors caps above.0)) →
-          r ≡ linked (first_among first size (ancestors caps place))
+      pub walk_passes : {r : ℕ} → inside ≡ false → r ≡ first_among first size (ancestors caps above.0) →
+          r ≡ first_among first size (ancestors caps place)
       unfolding first_among
       walk_passes f e = rw (walk_on, sym is_inside ∙ f) e
 

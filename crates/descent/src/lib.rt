@@ -22,19 +22,28 @@ pub fn parent(table: &[u32], place: Place) -> Option<Place>
     Place::linked(places::load(table, place).parent)
 }
 
-// The nearest strict ancestor of a place among those of a range, if there is one. The walk goes to the parent, whose depth is one less. It calls itself, the form that is asked for here
-// (docs/DECISIONS.md).
+// The link word of the nearest strict ancestor of a place among those of a range, or 0 where there is none. The walk goes to the parent, whose depth is one less. It calls itself, the form
+// that is asked for here (docs/DECISIONS.md), and answers a word, so that the call is its last step and takes no stack of its own.
+fn ancestor_word(table: &[u32], place: Place, range: PlaceRange) -> u32
+    requires { Sized table.now × Linked (cap_at table.now) × (place.0 < places) }
+    ensures { result ≡ first_among range.first.0 range.size (ancestors (cap_at table.now) place.0) }
+{
+    let cap = places::load(table, place);
+    let Some(above) = Place::linked(cap.parent) else {
+        return 0;
+    };
+    if range.contains(above) {
+        return cap.parent;
+    }
+    ancestor_word(table, above, range)
+}
+
+// The nearest strict ancestor of a place among those of a range, if there is one.
 pub fn ancestor(table: &[u32], place: Place, range: PlaceRange) -> Option<Place>
     requires { Sized table.now × Linked (cap_at table.now) × (place.0 < places) }
     ensures { result ≡ linked (first_among range.first.0 range.size (ancestors (cap_at table.now) place.0)) }
 {
-    let Some(above) = parent(table, place) else {
-        return None;
-    };
-    if range.contains(above) {
-        return Some(above);
-    }
-    ancestor(table, above, range)
+    Place::linked(ancestor_word(table, place, range))
 }
 
 // A table with links that a walk can follow, and a range whose strict descendants are looked for in it. The marks are lent to each walk and are no part of it: they are two arrays,
