@@ -77,7 +77,7 @@ pub fn fixed_keeps(table: &[u32], place: u32) -> bool
 pub fn null_keeps(cap: Cap) -> bool
     ensures { result ≡ (live cap || same_cap cap nothing) }
 {
-    (0 < cap.permissions) | (cap == places::without_parent(0, 0))
+    places::is_live(cap) || cap == places::without_parent(0, 0)
 }
 
 // Whether the words of so many places from one on are all 0. Each is looked at, without leaving early, so that the compiler makes vector code.
