@@ -46,6 +46,8 @@ counted c =
       is_value = c.load-count.ensures;
     }
 
+-- an operation that no semaphore has is refused first,
+-- whatever the caller may do
 pub returns-in_default : goal.returns-in_default
 returns-in_default c = unknown_operation c.requires c.in_default.ensures
 
