@@ -23,7 +23,8 @@ pub fn parent(table: &[u32], place: Place) -> Option<Place>
 }
 
 // The link word of the nearest strict ancestor of a place among those of a range, or 0 where there is none. The walk goes to the parent, whose depth is one less. It calls itself, the form
-// that is asked for here (docs/DECISIONS.md), and answers a word, so that the call is its last step and takes no stack of its own.
+// that is asked for here (docs/DECISIONS.md), and answers a word, so that the call is its last step and takes no stack of its own. Apart from its callers it has the registers to itself.
+#[inline(never)]
 fn ancestor_word(table: &[u32], place: Place, range: PlaceRange) -> u32
     requires { Sized table.now × Linked (cap_at table.now) × (place.0 < places) }
     ensures { result ≡ first_among range.first.0 range.size (ancestors (cap_at table.now) place.0) }
